@@ -1,0 +1,8 @@
+-- The laws of the readings, in the order in which they stand on each other.
+pub mod Near
+pub mod Fields
+pub mod Range
+pub mod Back
+pub mod Bursts
+pub mod Rule
+pub mod Claims

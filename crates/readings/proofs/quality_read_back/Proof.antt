@@ -1,0 +1,48 @@
+-- `readings::quality_read_back` meets its contract: by the laws of `Back` at the ends of its range.
+use mathlib.Core.Path.{_≡_, sym, ap, _∙_}
+use lib.Dec.{lit<}
+use mir.Syntax.{w32}
+use mir.ValLaws.{toZ-ofZ}
+use Rattle.readings.specs.Ranges.{qualityLow, qualityHigh}
+use Rattle.readings.specs.Float.{qualityShown}
+use Rattle.readings.specs.Told.{toldShown}
+use Rattle.readings.proofs.Back.{shown-back, refused-back}
+use borrow.Author.Needs.{needs}
+use Rattle.readings.proofs.quality_read_back.Statement.{statement}
+use Rattle.readings.proofs.quality_read_back.Tie as tie
+use Rattle.readings.proofs.quality_read_back.Reads as reads
+use Rattle.readings.proofs.quality_read_back.Lts as lts
+use Rattle.readings.proofs.quality_to_hundredths.Reads as quality-to-hundredths-reads
+use Rattle.readings.proofs.quality_to_float.Reads as quality-to-float-reads
+
+-- what was shown
+told-shown : (m : tie.After-quality-to-float) → toldShown (m .quality-to-float .result) ≡ qualityShown (m .before .args .h)
+told-shown m = m .quality-to-float .ensures ∙ ap qualityShown (toZ-ofZ w32 (m .before .args .h) (m .before .fits .h))
+
+quality-to-float-requires : tie.Need-quality-to-float-requires
+quality-to-float-requires c κs = search needs
+
+enum-known-x : tie.Need-enum-known-x
+enum-known-x c = search needs
+
+quality-to-hundredths-requires : tie.Need-quality-to-hundredths-requires
+quality-to-hundredths-requires c κs = search needs
+
+enum-known-why : tie.Need-enum-known-why
+enum-known-why c = search needs
+
+returns : tie.Need-returns
+returns c =
+    let m = c .before .before .before .before in
+    c .quality-to-hundredths .ensures
+    ∙ shown-back qualityLow qualityHigh (m .before .args .h) (lit< tt) (lit< tt) _ (ap toldShown (sym (c .before .before .x .given .1)) ∙ told-shown m)
+
+returns-2 : tie.Need-returns-2
+returns-2 c =
+    let m = c .before .before .before in
+    refused-back qualityLow qualityHigh (m .before .args .h) (lit< tt) (lit< tt) _ (ap toldShown (sym (c .before .why .given .1)) ∙ told-shown m)
+
+pub quality-read-back-spec : {M : Type 1} → statement M
+quality-read-back-spec =
+    tie.close
+    (tie.spec quality-to-float-requires enum-known-x quality-to-hundredths-requires enum-known-why returns returns-2)

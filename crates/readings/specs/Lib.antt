@@ -1,0 +1,10 @@
+-- Document 01, section Readings. Start with `Ranges`, `Rounding` and `Hundredths`; `Claims` says what is claimed beyond the contracts.
+pub mod Ranges
+pub mod Rounding
+pub mod Hundredths
+pub mod Float
+pub mod Burst
+pub mod Back
+pub mod Told
+pub mod Claims
+pub mod Code
