@@ -9,6 +9,7 @@ ghost use Rattle.readings.specs.Burst.{burstOf, InRange};
 ghost use Rattle.readings.specs.Told.{toldHundredths, toldShown, toldBurst};
 ghost use Rattle.readings.specs.Back.{levelBack, qualityBack};
 ghost use Rattle.readings.specs.Code.{Near, inUnits, small};
+ghost use Rattle.readings.specs.Claims.{RoundingRule, HundredthsRule, ReadBack, BurstInRange, AnswersDiffer};
 use refusal::Refusal;
 
 // What the modem measures in a burst that it hears: a level in dBm and a quality in dB.
@@ -200,3 +201,12 @@ pub fn burst_to_hundredths(b: Burst) -> BurstHundredths
         Burst::Missed => BurstHundredths::Missed,
     }
 }
+
+// Nothing to run: its contract is all that is claimed of the readings beyond the calls, so that the check asks for the proof of each.
+pub fn claimed()
+    ensures rounding { λ _. ⌜ RoundingRule ⌝ }
+    ensures hundredths { λ _. ⌜ HundredthsRule ⌝ }
+    ensures back { λ _. ⌜ ReadBack ⌝ }
+    ensures burst { λ _. ⌜ BurstInRange ⌝ }
+    ensures told { λ _. ⌜ AnswersDiffer ⌝ }
+{}

@@ -1,6 +1,7 @@
 // Document 01's table of refusals: why a call is refused, and the number that crews and support know it by.
 ghost use mathlib.Core.Path.{_≡_};
 ghost use Rattle.refusal.specs.Number.{numberOf};
+ghost use Rattle.refusal.specs.Claims.{NumbersDiffer, OutcomesDiffer};
 
 pub enum Refusal {
     // 1: a level or quality, as a float or in hundredths, is outside its range
@@ -45,3 +46,9 @@ pub fn number(r: Refusal) -> u32
         Refusal::RecordNotWellFormed => 9,
     }
 }
+
+// Nothing to run: its contract is what is claimed of the refusals, so that the check asks for the proof of each.
+pub fn claimed()
+    ensures numbers { λ _. ⌜ NumbersDiffer ⌝ }
+    ensures outcomes { λ _. ⌜ OutcomesDiffer ⌝ }
+{}
