@@ -1,0 +1,27 @@
+-- By the cases of what was decoded, and of the code being numeric.
+use Rattle.power.specs.PowerSteps.{parSaveAfter}
+use borrow.Author.Needs.{needs}
+use Rattle.power.proofs.Ranges.{is-numeric, not-numeric}
+use Rattle.power.proofs.par_save_after.Statement.{statement}
+use Rattle.power.proofs.par_save_after.Tie as tie
+
+enum-told : tie.Need-enum-told
+enum-told c = search needs
+
+enum-known-d : tie.Need-enum-known-d
+enum-known-d c = search needs
+
+returns : tie.Need-returns
+unfolding parSaveAfter
+returns c = rw (c .enum-told .given .1)
+
+returns-2 : tie.Need-returns-2
+unfolding parSaveAfter
+returns-2 c = rw (c .before .before .d .given .1, is-numeric (c .if1 .taken))
+
+returns-3 : tie.Need-returns-3
+unfolding parSaveAfter
+returns-3 c = rw (c .before .before .d .given .1, not-numeric (c .if1 .left))
+
+pub par-save-after-spec : {M : Type 1} → statement M
+par-save-after-spec = tie.close (tie.spec enum-told enum-known-d returns returns-2 returns-3)

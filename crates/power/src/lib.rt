@@ -1,0 +1,378 @@
+// Power steps: the two codes that a terminal sends in each power control message, and the record that it keeps from one to the next.
+// Document 01, section Power steps; source document 000, clause 5.4, items 1 to 5.2, and clause 11.1.
+ghost use mathlib.Core.Path.{_≡_};
+ghost use Prim.Native.Nat.{_≤_, min};
+ghost use Rattle.power.specs.declared.Answer.the-variants.{Send, Refused};
+ghost use Rattle.power.specs.Constants.{numericHighest, thousandthsHighest};
+ghost use Rattle.power.specs.PowerSteps.{parametersInRange, codesInRange, wellFormed, freshWith, panUse, panBasicAfter, parSaveAfter, increaseAfter, recordAfter};
+ghost use Rattle.power.specs.Calls.{started, tested, stepped};
+ghost use Rattle.power.specs.Told.{toldAnswer};
+ghost use Rattle.power.specs.Code.{Usable, Formed, qualitySpan, qualityOf, gainAt, heldAt, nearestCode, wholeCodes, parAt, panAt};
+ghost use Rattle.power.specs.Claims.{StartsWellFormed, StaysWellFormed, RefusedKeepsRecord, SendsWithinLimits, RoundsDown, AnswersDiffer};
+ghost use Rattle.refusal.specs.Told.{toldOutcome};
+use refusal::Outcome;
+use refusal::Refusal;
+
+// The parameters, as codes.
+#[repr(C)]
+pub struct PowerParameters {
+    // The quality aimed at, by 0.1 dB.
+    pub sqt: u32,
+    // Attenuations, by 0.4 dB.
+    pub paninit: u32,
+    pub panmin: u32,
+    pub panmax: u32,
+    // Gains of the loop, by 0.1: where the quality is not above the one aimed at, and where it is.
+    pub gainup: u32,
+    pub gaindn: u32,
+    // What each failed message adds to the increase, by 0.2 dB.
+    pub mestep: u32,
+}
+
+// The power record: three codes, and the increase in thousandths of a dB.
+#[repr(C)]
+pub struct PowerRecord {
+    pub panlast: u32,
+    pub parsave: u32,
+    pub panbasic: u32,
+    pub increase: u32,
+}
+
+// What decoding the other end's message gave.
+pub enum Decoded {
+    Failed,
+    Codes { pan: u32, par: u32 },
+}
+
+// What a step answers: the codes to send.
+pub enum Answer {
+    Send { par: u32, pan: u32 },
+    Refused(Refusal),
+}
+
+// A record, beside what a step answers.
+pub struct Stepped {
+    pub power: PowerRecord,
+    pub answer: Answer,
+}
+
+// A record, beside what a start or a test answers.
+pub struct Handed {
+    pub power: PowerRecord,
+    pub answer: Outcome,
+}
+
+// A quality that is in its range, counted from the lowest.
+enum Quality {
+    InRange(u32),
+    OutOfRange,
+}
+
+// The ranges of the parameters begin at 0 and end here.
+const SQT_HIGHEST: u32 = 126;
+
+const GAINUP_HIGHEST: u32 = 31;
+
+const GAINDN_HIGHEST: u32 = 10;
+
+const MESTEP_HIGHEST: u32 = 15;
+
+// The last numeric code of a PAN or PAR, and the last code of all.
+const NUMERIC_HIGHEST: u32 = 60;
+
+const CODE_HIGHEST: u32 = 63;
+
+// One step of SQT is 0.1 dB, in hundredths.
+const SQT_STEP: u32 = 10;
+
+// One code is 0.4 dB, one step of Mestep 0.2 dB, in thousandths.
+const CODE_STEP: u32 = 400;
+
+const MESTEP_STEP: u32 = 200;
+
+// The greatest attenuation and the greatest increase, 24 dB in thousandths.
+const THOUSANDTHS_HIGHEST: u32 = 24_000;
+
+// 0 dB, counted from the lowest quality in hundredths.
+const ZERO_QUALITY: u32 = (0 - readings::QUALITY_LOWEST) as u32;
+
+// Codes 0 to 60, increase a multiple of 200 in 0 to 24,000.
+fn well_formed(r: PowerRecord) -> bool
+    ensures { λ b. ⌜ b ≡ wellFormed r ⌝ }
+{
+    (r.panlast <= NUMERIC_HIGHEST)
+        & (r.parsave <= NUMERIC_HIGHEST)
+        & (r.panbasic <= NUMERIC_HIGHEST)
+        & (r.increase <= THOUSANDTHS_HIGHEST)
+        & (r.increase % MESTEP_STEP == 0)
+}
+
+fn parameters_in_range(p: PowerParameters) -> bool
+    ensures { λ b. ⌜ b ≡ parametersInRange p ⌝ }
+{
+    (p.sqt <= SQT_HIGHEST)
+        & (p.paninit <= NUMERIC_HIGHEST)
+        & (p.panmin <= NUMERIC_HIGHEST)
+        & (p.panmax <= NUMERIC_HIGHEST)
+        & (p.panmin <= p.panmax)
+        & (p.gainup <= GAINUP_HIGHEST)
+        & (p.gaindn <= GAINDN_HIGHEST)
+        & (p.mestep <= MESTEP_HIGHEST)
+}
+
+fn codes_in_range(d: Decoded) -> bool
+    ensures { λ b. ⌜ b ≡ codesInRange d ⌝ }
+{
+    match d {
+        Decoded::Failed => true,
+        Decoded::Codes { pan, par } => (pan <= CODE_HIGHEST) & (par <= CODE_HIGHEST),
+    }
+}
+
+fn quality_of(sqi: i32) -> Quality
+    ensures { λ q. ⌜ q ≡ qualityOf sqi ⌝ }
+{
+    let inside = (readings::QUALITY_LOWEST <= sqi) & (sqi <= readings::QUALITY_HIGHEST);
+    if inside {
+        Quality::InRange((sqi - readings::QUALITY_LOWEST) as u32)
+    } else {
+        Quality::OutOfRange
+    }
+}
+
+fn lesser(a: u32, b: u32) -> u32
+    ensures { λ x. ⌜ x ≡ min a b ⌝ }
+{
+    if a <= b { a } else { b }
+}
+
+// Rule 1: the PAN in use, which is also the next PANlast.
+fn pan_use(r: PowerRecord, d: Decoded) -> u32
+    ensures { λ x. ⌜ x ≡ panUse r d ⌝ }
+{
+    match d {
+        Decoded::Failed => r.panlast,
+        Decoded::Codes { pan, par: _ } => {
+            if pan <= NUMERIC_HIGHEST {
+                pan
+            } else {
+                r.panlast
+            }
+        }
+    }
+}
+
+// Rule 2: the gain. The target and the quality are counted from the lowest quality.
+fn gain(p: PowerParameters, target: u32, quality: u32) -> u32
+    ensures { λ g. ⌜ g ≡ gainAt p target quality ⌝ }
+{
+    if target < quality { p.gaindn } else { p.gainup }
+}
+
+// Rule 2: T brought into 0 to 24,000.
+fn held_thousandths(p: PowerParameters, panuse: u32, quality: u32) -> u32
+    requires { ⌜ Usable p × (panuse ≤ numericHighest) × (quality ≤ qualitySpan) ⌝ }
+    ensures { λ t. ⌜ t ≡ heldAt p panuse quality ⌝ }
+{
+    let target = SQT_STEP * p.sqt + ZERO_QUALITY;
+    let base = CODE_STEP * panuse;
+    let g = gain(p, target, quality);
+    if target < quality {
+        return lesser(THOUSANDTHS_HIGHEST, base + g * (quality - target));
+    }
+    let less = g * (target - quality);
+    if base < less { 0 } else { base - less }
+}
+
+// Rule 2: the nearest code, a half to the lower: one less than half a code is added.
+fn nearest_code(t: u32) -> u32
+    requires { ⌜ t ≤ thousandthsHighest ⌝ }
+    ensures { λ x. ⌜ x ≡ nearestCode t ⌝ }
+{
+    (t + (CODE_STEP / 2 - 1)) / CODE_STEP
+}
+
+// Rule 3: the next PANbasic, by the PARsave before the step.
+fn pan_basic_after(r: PowerRecord, d: Decoded) -> u32
+    ensures { λ x. ⌜ x ≡ panBasicAfter r d ⌝ }
+{
+    match d {
+        Decoded::Failed => r.panbasic,
+        Decoded::Codes { pan: _, par } => {
+            if par <= NUMERIC_HIGHEST {
+                lesser(par, r.parsave)
+            } else {
+                r.panbasic
+            }
+        }
+    }
+}
+
+// Rule 3: the next PARsave.
+fn par_save_after(r: PowerRecord, d: Decoded) -> u32
+    ensures { λ x. ⌜ x ≡ parSaveAfter r d ⌝ }
+{
+    match d {
+        Decoded::Failed => r.parsave,
+        Decoded::Codes { pan: _, par } => {
+            if par <= NUMERIC_HIGHEST {
+                par
+            } else {
+                r.parsave
+            }
+        }
+    }
+}
+
+// Rule 3: the next increase.
+fn increase_after(p: PowerParameters, r: PowerRecord, d: Decoded) -> u32
+    requires { ⌜ Usable p × Formed r ⌝ }
+    ensures { λ x. ⌜ x ≡ increaseAfter p r d ⌝ }
+{
+    match d {
+        Decoded::Failed => lesser(THOUSANDTHS_HIGHEST, r.increase + MESTEP_STEP * p.mestep),
+        Decoded::Codes { pan: _, par: _ } => 0,
+    }
+}
+
+// Rule 4: the whole codes in so many thousandths, rounded down.
+fn whole_codes(t: u32) -> u32
+    requires { ⌜ t ≤ thousandthsHighest ⌝ }
+    ensures { λ x. ⌜ x ≡ wholeCodes t ⌝ }
+{
+    t / CODE_STEP
+}
+
+// Rule 4: the PAN to send, of the record after the step. Below 0 it is PANmin.
+fn pan_to_send(p: PowerParameters, r: PowerRecord) -> u32
+    requires { ⌜ Usable p × Formed r ⌝ }
+    ensures { λ x. ⌜ x ≡ panAt p r ⌝ }
+{
+    let base = CODE_STEP * r.panbasic;
+    if base < r.increase {
+        return p.panmin;
+    }
+    let x = whole_codes(base - r.increase);
+    if x < p.panmin {
+        p.panmin
+    } else {
+        lesser(p.panmax, x)
+    }
+}
+
+fn fresh_with(paninit: u32) -> PowerRecord
+    ensures { λ r. ⌜ r ≡ freshWith paninit ⌝ }
+{
+    PowerRecord {
+        panlast: paninit,
+        parsave: paninit,
+        panbasic: paninit,
+        increase: 0,
+    }
+}
+
+fn refused(why: Refusal, r: PowerRecord) -> Stepped
+    ensures { λ s. ⌜ (s .power ≡ r) × (s .answer ≡ Refused why) ⌝ }
+{
+    Stepped {
+        power: r,
+        answer: Answer::Refused(why),
+    }
+}
+
+// Rules 1 and 3: the record after a step.
+fn record_after(p: PowerParameters, r: PowerRecord, d: Decoded) -> PowerRecord
+    requires { ⌜ Usable p × Formed r ⌝ }
+    ensures { λ x. ⌜ x ≡ recordAfter p r d ⌝ }
+{
+    PowerRecord {
+        panlast: pan_use(r, d),
+        parsave: par_save_after(r, d),
+        panbasic: pan_basic_after(r, d),
+        increase: increase_after(p, r, d),
+    }
+}
+
+// An accepted step, at a quality counted from the lowest. PANuse is the PANlast after the step.
+fn send(p: PowerParameters, r: PowerRecord, d: Decoded, quality: u32) -> Stepped
+    requires { ⌜ Usable p × Formed r × (quality ≤ qualitySpan) ⌝ }
+    ensures { λ s. ⌜ (s .power ≡ recordAfter p r d) × (s .answer ≡ Send (parAt p (panUse r d) quality) (panAt p (recordAfter p r d))) ⌝ }
+{
+    let power = record_after(p, r, d);
+    let par = nearest_code(held_thousandths(p, power.panlast, quality));
+    let pan = pan_to_send(p, power);
+    Stepped {
+        power,
+        answer: Answer::Send { par, pan },
+    }
+}
+
+// A fresh record; refused, one of all zeros.
+pub fn start(p: PowerParameters) -> Handed
+    ensures { λ h. ⌜ (h .power ≡ started p .power) × (toldOutcome (h .answer) ≡ started p .answer) ⌝ }
+{
+    if parameters_in_range(p) {
+        Handed {
+            power: fresh_with(p.paninit),
+            answer: Outcome::Accepted,
+        }
+    } else {
+        Handed {
+            power: fresh_with(0),
+            answer: Outcome::Refused(Refusal::ParameterOutOfRange),
+        }
+    }
+}
+
+// Whether a record is well formed; it comes back as it was given.
+pub fn check(r: PowerRecord) -> Handed
+    ensures { λ h. ⌜ (h .power ≡ tested r .power) × (toldOutcome (h .answer) ≡ tested r .answer) ⌝ }
+{
+    if well_formed(r) {
+        Handed {
+            power: r,
+            answer: Outcome::Accepted,
+        }
+    } else {
+        Handed {
+            power: r,
+            answer: Outcome::Refused(Refusal::RecordNotWellFormed),
+        }
+    }
+}
+
+// One step: the codes to send and the record after it, or a refusal and the record as it was given.
+pub fn step(p: PowerParameters, r: PowerRecord, d: Decoded, sqi: i32) -> Stepped
+    ensures { λ s. ⌜ (s .power ≡ stepped p r d sqi .power) × (toldAnswer (s .answer) ≡ stepped p r d sqi .answer) ⌝ }
+{
+    if !well_formed(r) {
+        return refused(Refusal::RecordNotWellFormed, r);
+    }
+    let usable = parameters_in_range(p) & codes_in_range(d);
+    if !usable {
+        return refused(Refusal::ParameterOutOfRange, r);
+    }
+    match quality_of(sqi) {
+        Quality::OutOfRange => refused(Refusal::ReadingOutOfRange, r),
+        Quality::InRange(quality) => send(p, r, d, quality),
+    }
+}
+
+// One step on a record that is lent, which is advanced there. A refused step stores the same record again.
+pub fn advance(r: &mut PowerRecord, p: PowerParameters, d: Decoded, sqi: i32) -> Answer
+    ensures { λ a. ⌜ (toldAnswer a ≡ stepped p (now (r .entry)) d sqi .answer) × (now (r .exit) ≡ stepped p (now (r .entry)) d sqi .power) ⌝ }
+{
+    let s = step(p, *r, d, sqi);
+    *r = s.power;
+    s.answer
+}
+
+// Nothing to run: its contract is all that is claimed of the power steps beyond the calls, so that the check asks for the proof of each.
+pub fn claimed()
+    ensures starts { λ _. ⌜ StartsWellFormed ⌝ }
+    ensures stays { λ _. ⌜ StaysWellFormed ⌝ }
+    ensures refused { λ _. ⌜ RefusedKeepsRecord ⌝ }
+    ensures limits { λ _. ⌜ SendsWithinLimits ⌝ }
+    ensures rounding { λ _. ⌜ RoundsDown ⌝ }
+    ensures told { λ _. ⌜ AnswersDiffer ⌝ }
+{}
