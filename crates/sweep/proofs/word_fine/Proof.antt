@@ -1,0 +1,36 @@
+-- `word_fine` meets its contract: the common bits are tested at once, and the levels by the halves of the word.
+use mathlib.Core.Path.{sym, ap₂, _∙_}
+use mathlib.Core.Bool.{Bool, _&&_}
+use Rattle.sweep.specs.Code.{wordFine}
+use Rattle.sweep.proofs.Words.{within-test}
+use Rattle.sweep.proofs.Levels.{halves}
+use borrow.Author.Needs.{needs}
+use Rattle.sweep.proofs.word_fine.Statement.{statement}
+use Rattle.sweep.proofs.word_fine.Tie as tie
+
+cast-low : tie.Need-cast-low
+cast-low c = search needs
+
+cast-high : tie.Need-cast-high
+cast-high c = search needs
+
+half-fine-requires : tie.Need-half-fine-requires
+half-fine-requires c κs = search needs
+
+add-half-fine : tie.Need-add-half-fine
+add-half-fine c = search needs
+
+half-fine-requires-2 : tie.Need-half-fine-requires-2
+half-fine-requires-2 c κs = search needs
+
+returns : tie.Need-returns
+unfolding wordFine
+returns c =
+    let a = c .before .before .args in
+    ap₂ (λ (x y : Bool). x && y) (within-test (a .heard) (a .visited) (c .before .before .fits .heard .fits))
+    (ap₂ (λ (x y : Bool). x && y) (c .before .half-fine .ensures) (c .half-fine2 .ensures) ∙ sym (halves (a .levels .now) (a .at) (a .heard)))
+
+pub word-fine-spec : {M : Type 1} → statement M
+word-fine-spec =
+    tie.close
+    (tie.spec cast-low cast-high half-fine-requires add-half-fine half-fine-requires-2 returns)
