@@ -1,0 +1,74 @@
+-- A track with too few levels, or too far below the top, leaves the best as it was; any other is compared with it.
+use Prim.Native.Nat.{ℕ, _+_, _≤_, _<_}
+use mathlib.Core.Path.{_≡_, sym, ap, ap₂, _∙_}
+use mathlib.Core.Bool.{Bool, true, false, cond, _&&_}
+use native.Mathlib.Omega.{arith}
+use borrow.Author.Needs.{needs}
+use borrow.Author.Tests.{le-leb, lt-leb, lt-ltb, le-ltb}
+use lib.Dec.{ltb}
+use lib.ListN.{length}
+use Rattle.watch_rules.specs.Limits.{depth}
+use Rattle.watch_rules.specs.Rows.{Row}
+use Rattle.watch_rules.specs.Record.{rowOf}
+use Rattle.watch_rules.proofs.Depth.{depth-is}
+use Rattle.watch_rules.proofs.Encode.{track-levels}
+use Rattle.watch.specs.declared.Pick.{Pick}
+use Rattle.watch.specs.Code.{allBelow, able, betterOf, pickOf, consider}
+use Rattle.watch.proofs.Sums.{track-below-most}
+use Rattle.watch.proofs.considered.Statement.{statement}
+use Rattle.watch.proofs.considered.Tie as tie
+
+module _ (limit margin : ℕ) (p : Pick) (r : Row) where
+  by-test : (b : Bool) → able limit margin (r .levels) ≡ b → consider limit margin p r ≡ cond b (betterOf p (pickOf (r .channel) (allBelow (r .levels)))) p
+  by-test b e = ap (λ (x : Bool). cond x (betterOf p (pickOf (r .channel) (allBelow (r .levels)))) p) e
+
+  too-few : length (r .levels) < depth → consider limit margin p r ≡ p
+  too-few h = by-test false (ap (λ (b : Bool). b && ltb (allBelow (r .levels) + margin) limit) (lt-leb depth (length (r .levels)) h))
+
+  module _ (enough : depth ≤ length (r .levels)) where
+    too-far : limit ≤ allBelow (r .levels) + margin → consider limit margin p r ≡ p
+    too-far h = by-test false (ap₂ _&&_ (le-leb depth (length (r .levels)) enough) (le-ltb (allBelow (r .levels) + margin) limit h))
+
+    near : allBelow (r .levels) + margin < limit → consider limit margin p r ≡ betterOf p (pickOf (r .channel) (allBelow (r .levels)))
+    near h = by-test true (ap₂ _&&_ (le-leb depth (length (r .levels)) enough) (lt-ltb (allBelow (r .levels) + margin) limit h))
+
+counted : (c : tie.Start) → length (rowOf (c .args .t) .levels) ≡ c .args .t .count
+counted c = track-levels (c .args .t) (c .pre .0) .counted
+
+enough : (c : tie.Else1) → depth ≤ length (rowOf (c .before .before .args .t) .levels)
+enough c = omega (arith, counted (c .before .before), c .if1 .left, depth-is)
+
+returns : tie.Need-returns
+returns c =
+    let a = c .before .before .args in
+    sym (too-few (a .limit) (a .margin) (a .p) (rowOf (a .t)) (omega (arith, counted (c .before .before), c .if1 .taken, depth-is)))
+
+total-requires : tie.Need-total-requires
+total-requires c κs = search needs
+
+add-if2 : tie.Need-add-if2
+add-if2 c =
+    let s = c .before .before .before in
+    record { fits = omega (arith, c .total .ensures, track-below-most (s .args .t) (s .pre .0), s .pre .1, depth-is) }
+
+returns-2 : tie.Need-returns-2
+returns-2 c =
+    let a = c .before .before .before .before .args in
+    let e = c .before .total .ensures in
+    sym (too-far (a .limit) (a .margin) (a .p) (rowOf (a .t)) (enough (c .before .before)) (omega (arith, c .if2 .taken)))
+
+better-requires : tie.Need-better-requires
+better-requires c κs = search needs
+
+returns-3 : tie.Need-returns-3
+returns-3 c =
+    let e2 = c .before in
+    let a = e2 .before .before .before .before .args in
+    let e = e2 .before .total .ensures in
+    c .better .ensures
+    ∙ ap (λ (n : ℕ). betterOf (a .p) (pickOf (a .t .channel) n)) e
+    ∙ sym (near (a .limit) (a .margin) (a .p) (rowOf (a .t)) (enough (e2 .before .before)) (omega (arith, e2 .if2 .left)))
+
+pub considered-spec : {M : Type 1} → statement M
+considered-spec =
+    tie.close (tie.spec returns total-requires add-if2 returns-2 better-requires returns-3)

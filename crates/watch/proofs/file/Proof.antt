@@ -1,0 +1,190 @@
+-- The readings' contract says what the burst is in hundredths; a heard level goes to the track at the channel's place.
+use Prim.Native.Nat.{ℕ, _<_}
+use mathlib.Core.Path.{_≡_, sym, ap, _∙_}
+use mathlib.Core.Bool.{true}
+use mathlib.Core.Option.{some}
+use native.Mathlib.Omega.{arith}
+use borrow.Author.Needs.{needs}
+use borrow.Author.Tests.{not-true, not-false}
+use lib.IntN.{ℤ}
+use lib.ListN.{getD, set}
+use mir.Facts.{toZ-ofZ}
+use Rattle.refusal.specs.declared.Refusal.the-variants.{NotWatched, ReadingOutOfRange}
+use Rattle.refusal.specs.Told.{Told, gives, refused}
+use Rattle.readings.specs.Burst.{BurstResult, heard, missed, burstOf}
+use Rattle.readings.specs.Told.{toldBurst}
+use Rattle.watch_rules.specs.declared.Track.{Track}
+use Rattle.watch_rules.specs.declared.Watch.{Watch}
+use Rattle.watch_rules.specs.Limits.{room}
+use Rattle.watch_rules.specs.Told.{file, accepted}
+use Rattle.watch_rules.specs.Rules.{watched, burstRefusal}
+use Rattle.watch_rules.specs.Rows.{push, shown, filedRows}
+use Rattle.watch_rules.specs.Record.{rows, rowOf, trackOf, recordOf, trackFine, wellFormed, called}
+use Rattle.watch_rules.proofs.Encode.{read-record}
+use Rattle.watch_rules.proofs.Calls.{called-unformed, called-refused, called-granted, refuse-now, refuse-later, formed-short}
+use Rattle.watch.specs.Code.{nothing, back}
+use Rattle.watch.proofs.Watched.{place-watched, place-unwatched, found-place, found-below, found-fine}
+use Rattle.watch.proofs.Stores.{watch-of, watch-pushed}
+use Rattle.watch.proofs.file.Statement.{statement}
+use Rattle.watch.proofs.file.Tie as tie
+
+formed : (c : tie.Else1) → wellFormed (c .before .before .args .w) ≡ true
+formed c = sym (c .before .well-formed .ensures) ∙ not-false _ (c .if1 .left)
+
+-- the entry, from the place where the channel was found
+abbrev entry : tie.Else2 → tie.Start
+entry c = c .before .before .before .before .before
+
+formed-there : (c : tie.Else2) → wellFormed (entry c .args .w) ≡ true
+formed-there c = formed (c .before .before .before)
+
+below : (c : tie.Else2) → c .before .place .result < room
+below c = found-below (entry c .args .w) (entry c .args .channel) (formed-there c) (c .before .place .ensures) (c .if2 .left)
+
+is-watched : (c : tie.Else2) → watched (shown (rows (entry c .args .w))) (entry c .args .channel) ≡ true
+is-watched c =
+    let a = entry c .args in
+    place-watched (a .w) (a .channel) (formed-there c) (found-place (a .w) (a .channel) (formed-there c) (c .before .place .ensures) (c .if2 .left))
+
+fine : (c : tie.Else2) → trackFine (getD (entry c .args .w .tracks) (c .before .place .result) nothing) ≡ true
+fine c = found-fine (entry c .args .w) (entry c .args .channel) (formed-there c) (c .before .place .ensures) (c .if2 .left)
+
+well-formed-requires : tie.Need-well-formed-requires
+well-formed-requires c κs = search needs
+
+refused-requires : tie.Need-refused-requires
+refused-requires c κs = search needs
+
+returns : tie.Need-returns
+returns c =
+    let a = c .before .before .before .args in
+    c .refused .ensures
+    ∙ sym (called-unformed (a .w) (file (a .channel) (a .burst)) (sym (c .before .before .well-formed .ensures) ∙ not-true _ (c .before .if1 .taken)))
+
+place-requires : tie.Need-place-requires
+place-requires c κs = formed-short (c .before .before .before .args .w) (formed (c .before))
+
+refused-requires-2 : tie.Need-refused-requires-2
+refused-requires-2 c κs = search needs
+
+returns-2 : tie.Need-returns-2
+returns-2 c =
+    let e1 = c .before .before .before .before in
+    let a = e1 .before .before .args in
+    c .refused2 .ensures
+    ∙ sym (called-refused (a .w) (file (a .channel) (a .burst)) (formed e1) NotWatched
+    (refuse-now NotWatched (burstRefusal (burstOf (a .burst))) (place-unwatched (a .w) (a .channel) (formed e1) (sym (c .before .before .place .ensures) ∙ c .before .if2 .taken))))
+
+burst-to-hundredths-requires : tie.Need-burst-to-hundredths-requires
+burst-to-hundredths-requires c κs = search needs
+
+enum-told : tie.Need-enum-told
+enum-told c = search needs
+
+accepted-requires : tie.Need-accepted-requires
+accepted-requires c κs = search needs
+
+enum-told-2 : tie.Need-enum-told-2
+enum-told-2 c = search needs
+
+refused-requires-3 : tie.Need-refused-requires-3
+refused-requires-3 c κs = search needs
+
+enum-known-r : tie.Need-enum-known-r
+enum-known-r c = search needs
+
+-- from the arm of a heard burst back to the place where the channel was found
+abbrev found-at : tie.After-known-told → tie.Else2
+found-at c = c .before .before .before .before
+
+mul-t : tie.Need-mul-t
+mul-t c = let h = below (found-at c) in omega arith
+
+element-copy-out-t : tie.Need-element-copy-out-t
+element-copy-out-t c = below (found-at c)
+
+pushed-requires : tie.Need-pushed-requires
+pushed-requires c κs = fine (found-at (c .before .before))
+
+mul-u : tie.Need-mul-u
+mul-u c = let h = below (found-at (c .before .before .before)) in omega arith
+
+element-set-from-u : tie.Need-element-set-from-u
+element-set-from-u c = below (found-at (c .before .before .before))
+
+accepted-requires-2 : tie.Need-accepted-requires-2
+accepted-requires-2 c κs = search needs
+
+-- what is granted of a burst that is not refused
+granted : (c : tie.Else2) (b : BurstResult) → burstOf (entry c .args .burst) ≡ gives b
+    → called (entry c .args .w) (file (entry c .args .channel) (entry c .args .burst))
+    ≡ back (recordOf (filedRows (entry c .args .channel) (gives b) (rows (entry c .args .w)))) (gives accepted)
+granted c b e =
+    let a = entry c .args in
+    called-granted (a .w) (file (a .channel) (a .burst)) (formed-there c) (refuse-later NotWatched (is-watched c) (ap burstRefusal e))
+    ∙ ap (λ (t : Told BurstResult). back (recordOf (filedRows (a .channel) t (rows (a .w)))) (gives accepted)) e
+
+returns-3 : tie.Need-returns-3
+returns-3 c =
+    let told = c .before in
+    let e2 = told .before .before .before in
+    let a = entry e2 .args in
+    let b : burstOf (a .burst) ≡ gives missed = sym (told .before .before .burst-to-hundredths .ensures .0) ∙ ap toldBurst (told .enum-told .given .1) in
+    c .accepted .ensures
+    ∙ ap (λ (w : Watch). back w (gives accepted)) (sym (read-record (a .w) (formed-there e2) .back))
+    ∙ sym (granted e2 missed b)
+
+returns-4 : tie.Need-returns-4
+returns-4 c =
+    let told = c .before in
+    let e2 = told .before .before .before in
+    let a = entry e2 .args in
+    let b : burstRefusal (burstOf (a .burst)) ≡ some ReadingOutOfRange =
+    ap burstRefusal (sym (told .before .before .burst-to-hundredths .ensures .0) ∙ ap toldBurst (told .enum-told2 .given .1)) in
+    c .refused3 .ensures
+    ∙ sym (called-refused (a .w) (file (a .channel) (a .burst)) (formed-there e2) ReadingOutOfRange (refuse-later NotWatched (is-watched e2) b))
+
+returns-5 : tie.Need-returns-5
+returns-5 c =
+    let st = c .before .before in
+    let kt = st .before .before in
+    let e2 = found-at kt in
+    let a = entry e2 .args in
+    let r = kt .before .r .given .0 .0 in
+    let f = formed-there e2 in
+    let p = e2 .before .place .ensures in
+    let there = found-place (a .w) (a .channel) f p (e2 .if2 .left) in
+    let b : burstOf (a .burst) ≡ gives (heard (r .level) (r .quality)) =
+    sym (kt .before .before .before .burst-to-hundredths .ensures .0) ∙ ap toldBurst (kt .before .r .given .1) in
+    c .accepted2 .ensures
+    ∙ ap (λ (t : Track). back (watch-of (a .w .watched) (set (a .w .tracks) (e2 .before .place .result) t)) (gives accepted)) (c .before .pushed .ensures)
+    ∙ ap (λ (y : ℤ). back (watch-of (a .w .watched) (set (a .w .tracks) (e2 .before .place .result) (trackOf (push y (rowOf (getD (a .w .tracks) (e2 .before .place .result) nothing)))))) (gives accepted)) (toZ-ofZ (record { sfits = st .struct-told .given .0 .1 }))
+    ∙ ap (λ (i : ℕ). back (watch-of (a .w .watched) (set (a .w .tracks) i (trackOf (push (r .level) (rowOf (getD (a .w .tracks) i nothing)))))) (gives accepted)) p
+    ∙ ap (λ (w : Watch). back w (gives accepted)) (watch-pushed (a .w) (a .channel) f there (r .level))
+    ∙ sym (granted e2 (heard (r .level) (r .quality)) b)
+
+pub file-spec : {M : Type 1} → statement M
+file-spec =
+    tie.close
+    (tie.spec
+    well-formed-requires
+    refused-requires
+    returns
+    place-requires
+    refused-requires-2
+    returns-2
+    burst-to-hundredths-requires
+    enum-told
+    accepted-requires
+    enum-told-2
+    refused-requires-3
+    enum-known-r
+    mul-t
+    element-copy-out-t
+    pushed-requires
+    mul-u
+    element-set-from-u
+    accepted-requires-2
+    returns-3
+    returns-4
+    returns-5)

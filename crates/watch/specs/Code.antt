@@ -1,0 +1,101 @@
+-- What the private functions of the calls return. No reader of the public contracts needs this file.
+use Prim.Native.Nat.{ℕ, zero, suc, _+_, _*_, _-_, _/_}
+use mathlib.Core.Bool.{Bool, true, false, cond, _&&_}
+use mathlib.Core.List.{List, [], _∷_, map}
+use mathlib.Core.Option.{Option, none, some}
+use lib.Dec.{eqb, leb, ltb}
+use lib.IntN.{ℤ, pos, natAbs, _-ℤ_}
+use lib.ListN.{length, getD}
+use Rattle.refusal.specs.Told.{Told}
+use Rattle.readings.specs.Ranges.{levelLowest, levelHighest}
+use Rattle.watch_rules.specs.declared.Track.{Track}
+use Rattle.watch_rules.specs.declared.Watch.{Watch}
+use Rattle.watch_rules.specs.Limits.{hysteresisHighest, depth}
+use Rattle.watch_rules.specs.Told.{Given, Called}
+use Rattle.watch_rules.specs.Rows.{Row, row}
+use Rattle.watch_rules.specs.Record.{trackOf}
+use Rattle.watch.specs.declared.Pick.{Pick}
+
+-- a watch beside its answer
+abbrev pub back : Watch → Told Given → Called
+back w a = record { watch = w; answer = a }
+
+-- ---- places
+
+-- the place of the first track with a channel; as many as there are where none has it
+abbrev pub placeOf : ℕ → List Track → ℕ
+placeOf c [] = 0
+placeOf c (t ∷ ts) = cond (eqb (t .channel) c) 0 (suc (placeOf c ts))
+
+abbrev pub channelsOf : List Track → List ℕ
+channelsOf ts = map (λ (t : Track). t .channel) ts
+
+-- a track with nothing in it, for places outside a list
+abbrev pub nothing : Track
+nothing = record { channel = 0; count = 0; levels = [] }
+
+-- a channel with the levels of the track at place p; without levels where p is not below n
+abbrev pub keptFrom : List Track → ℕ → ℕ → ℕ → Track
+keptFrom ts n p c =
+    cond (ltb p n)
+    (record { channel = c; count = getD ts p nothing .count; levels = getD ts p nothing .levels })
+    (trackOf (row c []))
+
+-- who serves in a record: nobody where nothing is watched
+abbrev pub servingOf : ℕ → ℕ → Option ℕ
+servingOf zero s = none
+servingOf (suc n) s = some s
+
+-- ---- levels as distances below the top of the range
+
+unfoldable pub belowTop : ℤ → ℕ
+belowTop x = natAbs (levelHighest -ℤ x)
+
+abbrev pub allBelow : List ℤ → ℕ
+allBelow [] = 0
+allBelow (x ∷ xs) = belowTop x + allBelow xs
+
+-- from the top of the range to its other end, for one level and for as many as are kept
+abbrev pub levelSpan : ℕ
+levelSpan = natAbs (levelHighest -ℤ levelLowest)
+
+abbrev pub spanInAll : ℕ
+spanInAll = depth * levelSpan
+
+-- the mean, rounded down, of k levels that are so far below the top in all
+unfoldable pub meanBelow : ℕ → ℕ → ℤ
+meanBelow n k = levelHighest -ℤ pos ((n + (k - 1)) / k)
+
+-- ---- the verdict
+
+-- what the highest hysteresis asks of a sum
+abbrev pub marginMost : ℕ
+marginMost = depth * hysteresisHighest
+
+-- the better of two, if there is a first: the greater sum, and the lower channel among equals
+abbrev pub betterOf : Pick → Pick → Pick
+betterOf p q =
+    cond (p .found)
+    (cond (ltb (q .below) (p .below)) q (cond (ltb (p .below) (q .below)) p (cond (ltb (q .channel) (p .channel)) q p)))
+    q
+
+-- levels that count: no fewer than are kept, and less below the top than the limit, by more than the margin
+abbrev pub able : ℕ → ℕ → List ℤ → Bool
+able limit margin l = leb depth (length l) && ltb (allBelow l + margin) limit
+
+abbrev pub pickOf : ℕ → ℕ → Pick
+pickOf c n = record { found = true; channel = c; below = n }
+
+-- the best so far with one neighbour more, and with several
+abbrev pub consider : ℕ → ℕ → Pick → Row → Pick
+consider limit margin p r = cond (able limit margin (r .levels)) (betterOf p (pickOf (r .channel) (allBelow (r .levels)))) p
+
+abbrev pub scan : ℕ → ℕ → Pick → List Row → Pick
+scan limit margin p [] = p
+scan limit margin p (r ∷ rs) = scan limit margin (consider limit margin p r) rs
+
+abbrev pub nobody : Pick
+nobody = record { found = false; channel = 0; below = 0 }
+
+abbrev pub chosen : Pick → Option ℕ
+chosen p = cond (p .found) (some (p .channel)) none

@@ -1,0 +1,114 @@
+-- What a call hands back in each case, for the proofs of the calls: refusal 9, another refusal, or what the rules grant. Each case is the
+-- definition with its tests decided.
+use Prim.Native.Nat.{ℕ, zero, suc, _≤_, _<_}
+use mathlib.Core.Path.{_≡_, refl, ap, _∙_}
+use mathlib.Core.Bool.{Bool, true, false, cond}
+use mathlib.Core.List.{List, [], _∷_}
+use mathlib.Core.Option.{Option, none, some, Option·some-ne-none}
+use native.Mathlib.Omega.{arith}
+use lib.Dec.{eqb}
+use lib.ListN.{length, getD}
+use borrow.Author.Tests.{eqb-true}
+use Rattle.refusal.specs.declared.Refusal.{Refusal}
+use Rattle.refusal.specs.declared.Refusal.the-variants.{RecordNotWellFormed}
+use Rattle.refusal.specs.Told.{Told, gives, refusedFor}
+use Rattle.watch_rules.specs.declared.Track.{Track}
+use Rattle.watch_rules.specs.declared.Watch.{Watch}
+use Rattle.watch_rules.specs.declared.Handed.{Handed}
+use Rattle.watch_rules.specs.Lists.{mem}
+use Rattle.watch_rules.specs.Limits.{room}
+use Rattle.watch_rules.specs.Told.{Call, Called, Given, accepted, told, toldHanded}
+use Rattle.watch_rules.specs.Rules.{View, watched, refusal, refuseUnless, answer, granted, orRefused, unlessRefused}
+use Rattle.watch_rules.specs.Rows.{Row, channels, shown, changedRows}
+use Rattle.watch_rules.specs.Record.{rows, recordOf, tracksFine, trackFine, wellFormed, handed, returned, called, tested}
+use Rattle.watch_rules.proofs.Laws.{clash, and-left, and-right}
+use Rattle.watch_rules.proofs.Good.{Good}
+use Rattle.watch_rules.proofs.Encode.{tracks-read, rows-record, well-formed-record}
+
+abbrev pub handing : Watch → Told Given → Called
+handing w a = record { watch = w; answer = a }
+
+pub handed-path : (r : Handed) (c : Called) → r .watch ≡ c .watch → told (r .answer) ≡ c .answer → toldHanded r ≡ c
+handed-path r c p q = λ i. record { watch = p i; answer = q i }
+
+-- ---- the cases of a call
+
+pub called-unformed : (w : Watch) (k : Call) → wellFormed w ≡ false → called w k ≡ handing w (refusedFor RecordNotWellFormed)
+unfolding called
+called-unformed w k e = ap (λ (b : Bool). cond b (handed w (rows w) k) (returned w)) e
+
+module _ (w : Watch) (k : Call) (formed : wellFormed w ≡ true) where
+  called-formed : (o : Option Refusal) → refusal (shown (rows w)) k ≡ o
+      → called w k ≡ handing (unlessRefused o w (recordOf (changedRows (rows w) k))) (orRefused o (granted (shown (rows w)) k))
+  unfolding called answer
+  called-formed o e =
+      ap (λ (b : Bool). cond b (handed w (rows w) k) (returned w)) formed
+      ∙ ap (λ (o : Option Refusal). handing (unlessRefused o w (recordOf (changedRows (rows w) k))) (orRefused o (granted (shown (rows w)) k))) e
+
+  pub called-refused : (r : Refusal) → refusal (shown (rows w)) k ≡ some r → called w k ≡ handing w (refusedFor r)
+  called-refused r e = called-formed (some r) e
+
+  pub called-granted : refusal (shown (rows w)) k ≡ none → called w k ≡ handing (recordOf (changedRows (rows w) k)) (gives (granted (shown (rows w)) k))
+  called-granted e = called-formed none e
+
+-- the test of well-formedness
+pub tested-formed : (w : Watch) → wellFormed w ≡ true → tested w ≡ handing w (gives accepted)
+unfolding tested
+tested-formed w e = ap (λ (b : Bool). cond b (handing w (gives accepted)) (returned w)) e
+
+pub tested-unformed : (w : Watch) → wellFormed w ≡ false → tested w ≡ handing w (refusedFor RecordNotWellFormed)
+unfolding tested
+tested-unformed w e = ap (λ (b : Bool). cond b (handing w (gives accepted)) (returned w)) e
+
+-- on the record of good rows
+pub called-record : (rs : List Row) (k : Call) → Good rs → called (recordOf rs) k ≡ handed (recordOf rs) rs k
+unfolding called
+called-record rs k g =
+    ap (λ (b : Bool). cond b (handed (recordOf rs) (rows (recordOf rs)) k) (returned (recordOf rs))) (well-formed-record rs g)
+    ∙ ap (λ (q : List Row). handed (recordOf rs) q k) (rows-record rs)
+
+-- ---- the chain of refusals: a test that fails refuses, one that holds goes on to the next
+
+pub refuse-now : {b : Bool} (r : Refusal) (o : Option Refusal) → b ≡ false → refuseUnless b r o ≡ some r
+refuse-now r o e = ap (λ (b : Bool). refuseUnless b r o) e
+
+pub refuse-later : {b : Bool} (r : Refusal) {o p : Option Refusal} → b ≡ true → o ≡ p → refuseUnless b r o ≡ p
+refuse-later r {o} e q = ap (λ (b : Bool). refuseUnless b r o) e ∙ q
+
+-- where nothing refuses, each test of the chain holds
+pub passed-test : (r : Refusal) (b : Bool) (o : Option Refusal) → refuseUnless b r o ≡ none → b ≡ true
+passed-test r true o e = refl
+passed-test r false o e = absurd (Option·some-ne-none r e)
+
+pub passed-rest : (r : Refusal) (b : Bool) (o : Option Refusal) → refuseUnless b r o ≡ none → o ≡ none
+passed-rest r true o e = e
+passed-rest r false o e = absurd (Option·some-ne-none r e)
+
+-- and then the answer is what the rules grant
+pub granted-answer : (v : View) (k : Call) → refusal v k ≡ none → answer v k ≡ gives (granted v k)
+unfolding answer
+granted-answer v k e = ap (λ (o : Option Refusal). orRefused o (granted v k)) e
+
+-- ---- what a well-formed record is
+
+pub formed-tracks : (w : Watch) → wellFormed w ≡ true → tracksFine (w .watched) (w .tracks) ≡ true
+unfolding wellFormed
+formed-tracks w e = and-left (tracksFine (w .watched) (w .tracks)) _ (and-right (eqb (length (w .tracks)) room) _ e)
+
+pub formed-long : (w : Watch) → wellFormed w ≡ true → length (w .tracks) ≡ room
+unfolding wellFormed
+formed-long w e = eqb-true (length (w .tracks)) room (and-left (eqb (length (w .tracks)) room) _ e)
+
+pub formed-short : (w : Watch) → wellFormed w ≡ true → w .watched ≤ room
+formed-short w e = omega (arith, formed-long w e, tracks-read (w .watched) (w .tracks) (formed-tracks w e) .within)
+
+pub fine-at : (n i : ℕ) (ts : List Track) (d : Track) → tracksFine n ts ≡ true → i < n → trackFine (getD ts i d) ≡ true
+fine-at zero i ts d e h = absurd (omega arith)
+fine-at (suc n) i [] d e h = clash e refl
+fine-at (suc n) zero (t ∷ ts) d e h = and-left (trackFine t) (tracksFine n ts) e
+fine-at (suc n) (suc i) (t ∷ ts) d e h = fine-at n i ts d (and-right (trackFine t) (tracksFine n ts) e) (omega arith)
+
+-- the channels under watch are those that have a row
+pub first-watched : (rs : List Row) (c : ℕ) → watched (shown rs) c ≡ mem c (channels rs)
+first-watched [] c = refl
+first-watched (r ∷ rs) c = refl

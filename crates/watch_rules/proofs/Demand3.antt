@@ -1,0 +1,182 @@
+-- Demand 3. Record and plain watch keep in step through every call, granted or refused, from the fresh one on; what they show is then one
+-- value, and all that is compared follows from it. The plain watch sees only the set of a list, so the order within lists is nothing.
+use Prim.Native.Nat.{ℕ}
+use mathlib.Core.Path.{_≡_, refl, sym, ap, ap₂, _∙_, subst}
+use mathlib.Core.Bool.{Bool, cond, _&&_, _||_}
+use mathlib.Core.List.{List, [], _∷_, map}
+use mathlib.Core.Option.{Option, none, some}
+use lib.Dec.{eqb}
+use lib.ListN.{length, take, length-map}
+use Rattle.refusal.specs.declared.Refusal.{Refusal}
+use Rattle.refusal.specs.declared.Refusal.the-variants as why
+use Rattle.watch_rules.specs.declared.Watch.{Watch}
+use Rattle.watch_rules.specs.Lists.{is, padTo}
+use Rattle.watch_rules.specs.Limits.{depth, room}
+use Rattle.watch_rules.specs.Told.{Call, Called, accepted}
+use Rattle.watch_rules.specs.Rules.{View, serves, refusal, refuseUnless, answer, orRefused, unlessRefused, mean}
+use Rattle.watch_rules.specs.Plain.{Plain, idle, underWatch, seen, change, next, answers, after}
+use Rattle.watch_rules.specs.Rows.{Row, levelsOf, shown, changedRows}
+use Rattle.watch_rules.specs.Record.{rows, trackOf, unused, recordOf, fresh, called, answersFrom, afterFrom}
+use Rattle.watch_rules.specs.Claims.{partIn, Compared, countOf, ofRecord, ofPlain, Alike, ButForOrder, same, lists, AllButForOrder, end, more, AsPlain, PlaceFree, Demand3}
+use Rattle.watch_rules.proofs.Laws.{byCase, take-padTo, last-none, view-path}
+use Rattle.watch_rules.proofs.Encode.{rows-record}
+use Rattle.watch_rules.proofs.Calls.{called-record}
+use Rattle.watch_rules.proofs.Steps.{Step, step}
+use Rattle.watch_rules.proofs.Reorder.{mem-reordered, sound-reordered}
+
+-- ---- in step through every call
+
+-- the record is that of rows that keep in step with the plain watch
+pub record Linked (w : Watch) (p : Plain) : Type 0 where
+  pub held : List Row
+  pub made : w ≡ recordOf held
+  pub kept : Step held p
+
+module _ (rs : List Row) (p : Plain) (k : Call) (s : Step rs p) where
+  answered-step : called (recordOf rs) k .answer ≡ answer (seen p) k
+  answered-step = ap (λ (o : Called). o .answer) (called-record rs k (s .good)) ∙ ap (λ (v : View). answer v k) (s .same)
+
+  linked-step : Linked (called (recordOf rs) k .watch) (next p k)
+  linked-step = go (refusal (shown rs) k) refl
+    where
+      at : called (recordOf rs) k .watch ≡ unlessRefused (refusal (shown rs) k) (recordOf rs) (recordOf (changedRows rs k))
+      at = ap (λ (o : Called). o .watch) (called-record rs k (s .good))
+
+      also : refusal (seen p) k ≡ refusal (shown rs) k
+      also = ap (λ (v : View). refusal v k) (sym (s .same))
+
+      go : (o : Option Refusal) → refusal (shown rs) k ≡ o → Linked (called (recordOf rs) k .watch) (next p k)
+      go none e =
+          record {
+            held = changedRows rs k;
+            made = at ∙ ap (λ (o : Option Refusal). unlessRefused o (recordOf rs) (recordOf (changedRows rs k))) e;
+            kept = subst (λ (o : Option Refusal). Step (changedRows rs k) (unlessRefused o p (change p k))) (sym (also ∙ e)) (step rs p k s e);
+          }
+      go (some r) e =
+          record {
+            held = rs;
+            made = at ∙ ap (λ (o : Option Refusal). unlessRefused o (recordOf rs) (recordOf (changedRows rs k))) e;
+            kept = subst (λ (o : Option Refusal). Step rs (unlessRefused o p (change p k))) (sym (also ∙ e)) s;
+          }
+
+linked-next : {w : Watch} {p : Plain} (k : Call) → Linked w p → Linked (called w k .watch) (next p k)
+linked-next {p = p} k l = subst (λ (x : Watch). Linked (called x k .watch) (next p k)) (sym (l .made)) (linked-step (l .held) p k (l .kept))
+
+answered-all : (ks : List Call) (w : Watch) (p : Plain) → Linked w p → answersFrom w ks ≡ answers p ks
+answered-all [] w p l = refl
+answered-all (k ∷ ks) w p l =
+    ap₂ _∷_
+    (ap (λ (x : Watch). called x k .answer) (l .made) ∙ answered-step (l .held) p k (l .kept))
+    (answered-all ks (called w k .watch) (next p k) (linked-next k l))
+
+linked-all : (ks : List Call) (w : Watch) (p : Plain) → Linked w p → Linked (afterFrom w ks) (after p ks)
+linked-all [] w p l = l
+linked-all (k ∷ ks) w p l = linked-all ks (called w k .watch) (next p k) (linked-next k l)
+
+linked-fresh : Linked fresh idle
+linked-fresh =
+    record {
+      held = [];
+      made = refl;
+      kept = record { good = record { short = refl; apart = refl; fine = refl }; same = view-path refl (λ c. refl) (λ c. sym (last-none depth)) };
+    }
+
+pub linked : (ks : List Call) → Linked (afterFrom fresh ks) (after idle ks)
+linked ks = linked-all ks fresh idle linked-fresh
+
+-- the answer to one more call
+pub answered-next : (ks : List Call) (k : Call) → called (afterFrom fresh ks) k .answer ≡ answer (seen (after idle ks)) k
+answered-next ks k =
+    let l = linked ks in
+    ap (λ (x : Watch). called x k .answer) (l .made) ∙ answered-step (l .held) (after idle ks) k (l .kept)
+
+-- ---- alike
+
+pub shows : {w : Watch} {p : Plain} → Linked w p → shown (rows w) ≡ seen p
+shows l = ap (λ (x : Watch). shown (rows x)) (l .made) ∙ ap shown (rows-record (l .held)) ∙ l .kept .same
+
+count-tracks : (c : ℕ) (rs : List Row) → countOf c (map trackOf rs) ≡ length (levelsOf c rs)
+count-tracks c [] = refl
+count-tracks c (r ∷ rs) = byCase (eqb (r .channel) c) (λ q. rw q) (λ q. rw q (count-tracks c rs))
+
+count-record : (c : ℕ) (rs : List Row) → countOf c (take (recordOf rs .watched) (recordOf rs .tracks)) ≡ length (levelsOf c rs)
+count-record c rs =
+    ap (λ (n : ℕ). countOf c (take n (padTo room unused (map trackOf rs)))) (sym (length-map rs trackOf))
+    ∙ ap (countOf c) (take-padTo room unused (map trackOf rs))
+    ∙ count-tracks c rs
+
+alike-linked : {w : Watch} {p : Plain} → Linked w p → Alike (ofRecord w) (ofPlain p)
+alike-linked l =
+    record {
+      serving = ap (λ (v : View). v .serving) (shows l);
+      neighbour = λ c. ap (λ (v : View). v .neighbour c) (shows l);
+      levels = λ c. ap (λ (v : View). v .levels c) (shows l);
+      count =
+          λ c.
+          ap (λ (x : Watch). countOf c (take (x .watched) (x .tracks))) (l .made)
+          ∙ count-record c (l .held)
+          ∙ ap (λ (v : View). length (v .levels c)) (l .kept .same);
+      mean = λ c. ap (λ (v : View). mean (v .levels c)) (shows l);
+      part = λ h r c. ap (λ (v : View). partIn v h c) (shows l);
+    }
+
+pub asPlain : (ks : List Call) → AsPlain ks
+asPlain ks = record { answered = answered-all ks fresh idle linked-fresh; alike = alike-linked (linked ks) }
+
+-- ---- the order within lists
+
+refusal-but : (v : View) {k j : Call} → ButForOrder k j → refusal v k ≡ refusal v j
+refusal-but v (same k) = refl
+refusal-but v (lists l m r) =
+    ap (λ (b : Bool). refuseUnless b why.ListFaulty (refuseUnless (serves (v .serving)) why.NotWatched none)) (sound-reordered (v .serving) l m r)
+
+answer-but : (v : View) {k j : Call} → ButForOrder k j → answer v k ≡ answer v j
+unfolding answer
+answer-but v (same k) = refl
+answer-but v (lists l m r) = ap (λ (o : Option Refusal). orRefused o accepted) (refusal-but v (lists l m r))
+
+change-but : (p : Plain) {k j : Call} → ButForOrder k j → change p k ≡ change p j
+change-but p (same k) = refl
+change-but p (lists l m r) =
+    λ i.
+    record {
+      serving = p .serving;
+      neighbour = λ c. mem-reordered l m r c i;
+      levels = λ c. cond (underWatch p c && (is (p .serving) c || mem-reordered l m r c i)) (p .levels c) [];
+    }
+
+next-but : (p : Plain) {k j : Call} → ButForOrder k j → next p k ≡ next p j
+next-but p b = ap₂ (λ (o : Option Refusal) (q : Plain). unlessRefused o p q) (refusal-but (seen p) b) (change-but p b)
+
+answers-but : (p : Plain) {ks js : List Call} → AllButForOrder ks js → answers p ks ≡ answers p js
+answers-but p end = refl
+answers-but p (more {k} {j} {ks} {js} b bs) =
+    ap₂ _∷_ (answer-but (seen p) b) (answers-but (next p k) bs ∙ ap (λ (q : Plain). answers q js) (next-but p b))
+
+after-but : (p : Plain) {ks js : List Call} → AllButForOrder ks js → after p ks ≡ after p js
+after-but p end = refl
+after-but p (more {k} {j} {ks} {js} b bs) = after-but (next p k) bs ∙ ap (λ (q : Plain). after q js) (next-but p b)
+
+alike-both : {a b c : Compared} → Alike a b → Alike c b → Alike a c
+alike-both x y =
+    record {
+      serving = x .serving ∙ sym (y .serving);
+      neighbour = λ c. x .neighbour c ∙ sym (y .neighbour c);
+      levels = λ c. x .levels c ∙ sym (y .levels c);
+      count = λ c. x .count c ∙ sym (y .count c);
+      mean = λ c. x .mean c ∙ sym (y .mean c);
+      part = λ h r c. x .part h r c ∙ sym (y .part h r c);
+    }
+
+placeFree : (ks js : List Call) → AllButForOrder ks js → PlaceFree ks js
+placeFree ks js b =
+    record {
+      answered = asPlain ks .answered ∙ answers-but idle b ∙ sym (asPlain js .answered);
+      alike =
+          alike-both
+          (subst (λ (p : Plain). Alike (ofRecord (afterFrom fresh ks)) (ofPlain p)) (after-but idle b) (asPlain ks .alike))
+          (asPlain js .alike);
+    }
+
+pub demand3 : Demand3
+demand3 = record { asPlain = asPlain; placeFree = placeFree }

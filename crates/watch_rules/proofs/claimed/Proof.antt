@@ -1,0 +1,15 @@
+-- `watch_rules::claimed` meets its contract: each of its parts is a theorem of this folder.
+use Rattle.watch_rules.proofs.Demand3.{demand3}
+use Rattle.watch_rules.proofs.Reach.{wellFormedIsReachable}
+use Rattle.watch_rules.proofs.Unchanged.{itFollows, unchanged}
+use Rattle.watch_rules.proofs.Verdict.{verdictRule, partRule}
+use Rattle.watch_rules.proofs.Mean.{askRule}
+use Rattle.watch_rules.proofs.Told.{answersDiffer}
+use Rattle.watch_rules.proofs.claimed.Statement.{statement}
+use Rattle.watch_rules.proofs.claimed.Tie as tie
+
+returns : tie.Need-returns
+returns c = (demand3, (wellFormedIsReachable, (itFollows, (unchanged, (askRule, (verdictRule, (partRule, answersDiffer)))))))
+
+pub claimed-spec : {M : Type 1} → statement M
+claimed-spec = tie.close (tie.spec returns)

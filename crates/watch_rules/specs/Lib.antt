@@ -1,0 +1,9 @@
+-- Document 01, sections The watch and The plain watch, and demand 3. Start with `Plain`, which is the measure of everything, and
+pub mod Lists
+pub mod Limits
+pub mod Told
+pub mod Rules
+pub mod Plain
+pub mod Rows
+pub mod Record
+pub mod Claims

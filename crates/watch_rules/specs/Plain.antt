@@ -1,0 +1,89 @@
+-- Document 01, section The plain watch. It is fed the calls alone; it sees no answer and no record, and no place in a list.
+use Prim.Native.Nat.{ℕ}
+use mathlib.Core.Bool.{Bool, false, not, cond, _&&_, _||_}
+use mathlib.Core.List.{List, [], _∷_, _++_}
+use mathlib.Core.Option.{Option, none, some}
+use lib.Dec.{eqb}
+use lib.IntN.{ℤ}
+use Rattle.refusal.specs.Told.{Told, refused, gives}
+use Rattle.readings.specs.Burst.{BurstResult, heard, missed, burstOf}
+use Rattle.watch_rules.specs.Lists.{mem, is, lastN}
+use Rattle.watch_rules.specs.Limits.{depth}
+use Rattle.watch_rules.specs.Told.{Call, start, newList, move, file, ask, verdict, Given}
+use Rattle.watch_rules.specs.Rules.{View, refusal, answer, unlessRefused}
+
+-- "It holds a serving channel or none, a set of neighbours and, for each of these channels (the ones under watch), all levels filed
+-- since it came under watch, oldest first."
+pub record Plain : Type 0 where
+  pub serving : Option ℕ
+  pub neighbour : ℕ → Bool
+  pub levels : ℕ → List ℤ
+
+-- "It begins idle."
+abbrev pub idle : Plain
+idle = record { serving = none; neighbour = λ c. false; levels = λ c. [] }
+
+-- the serving channel and the neighbours are the ones under watch
+abbrev pub underWatch : Plain → ℕ → Bool
+underWatch p c = is (p .serving) c || p .neighbour c
+
+-- "The rules above give the answer, over each channel's last 15 levels, or all if fewer."
+abbrev pub seen : Plain → View
+seen p = record { serving = p .serving; neighbour = p .neighbour; levels = λ c. lastN depth (p .levels c) }
+
+-- "Start: that channel serves, under watch from now, without levels. Nothing else is under watch."
+abbrev pub afterStart : ℕ → Plain
+afterStart c = record { serving = some c; neighbour = λ d. false; levels = λ d. [] }
+
+-- "New list: the neighbours are the set of its channels. One under watch before keeps its levels; any other comes under watch now,
+-- without levels. A dropped one's are gone." A channel is under watch afterwards where it serves or is in the list
+abbrev pub afterNewList : Plain → List ℕ → Plain
+afterNewList p l =
+    record {
+      serving = p .serving;
+      neighbour = λ c. mem c l;
+      levels = λ c. cond (underWatch p c && (is (p .serving) c || mem c l)) (p .levels c) [];
+    }
+
+-- "Move: the neighbour and the serving channel change roles. All levels stay."
+abbrev pub afterMove : Plain → ℕ → Plain
+afterMove p c =
+    record {
+      serving = some c;
+      neighbour = λ d. is (p .serving) d || (p .neighbour d && not (eqb c d));
+      levels = p .levels;
+    }
+
+-- "File: a heard level's hundredths go to the end of that channel's levels. Missed: no change." (A burst whose floats are out of range is
+-- refused before this.)
+abbrev pub afterFile : Plain → ℕ → Told BurstResult → Plain
+afterFile p c (gives (heard level quality)) =
+    record {
+      serving = p .serving;
+      neighbour = p .neighbour;
+      levels = λ d. cond (eqb c d) (p .levels d ++ level ∷ []) (p .levels d);
+    }
+afterFile p c (gives missed) = p
+afterFile p c (refused n) = p
+
+-- an accepted call. "Ask, verdict: no change."
+abbrev pub change : Plain → Call → Plain
+change p (start c) = afterStart c
+change p (newList l) = afterNewList p l
+change p (move c) = afterMove p c
+change p (file c b) = afterFile p c (burstOf b)
+change p (ask c) = p
+change p (verdict h) = p
+
+-- "A call that the refusal rules below refuse, with these arguments in this state, answers that refusal and changes nothing."
+abbrev pub next : Plain → Call → Plain
+next p k = unlessRefused (refusal (seen p) k) p (change p k)
+
+-- the answers to a sequence of calls, and the plain watch after the last of them
+abbrev pub answers : Plain → List Call → List (Told Given)
+answers p [] = []
+answers p (k ∷ ks) = answer (seen p) k ∷ answers (next p k) ks
+
+abbrev pub after : Plain → List Call → Plain
+after p [] = p
+after p (k ∷ ks) = after (next p k) ks

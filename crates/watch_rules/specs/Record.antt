@@ -1,0 +1,102 @@
+-- The record: its rows, when it is well formed, and what each call hands back. Document 01, section The watch.
+use Prim.Native.Nat.{ℕ, zero, suc}
+use mathlib.Core.Bool.{Bool, true, false, cond, _&&_}
+use mathlib.Core.List.{List, [], _∷_, map}
+use lib.Dec.{eqb, leb}
+use lib.IntN.{ℤ, pos, negsuc}
+use lib.ListN.{length, take}
+use Rattle.refusal.specs.declared.Refusal.the-variants.{RecordNotWellFormed}
+use Rattle.refusal.specs.Told.{Told, gives, refusedFor}
+use Rattle.readings.specs.Ranges.{levelInRange}
+use Rattle.watch_rules.specs.declared.Track.{Track}
+use Rattle.watch_rules.specs.declared.Watch.{Watch}
+use Rattle.watch_rules.specs.Lists.{distinct, padTo}
+use Rattle.watch_rules.specs.Limits.{channelInRange, depth, capacity, room}
+use Rattle.watch_rules.specs.Told.{Call, Called, Given, accepted}
+use Rattle.watch_rules.specs.Rules.{refusal, answer, unlessRefused}
+use Rattle.watch_rules.specs.Rows.{Row, row, channels, shown, changedRows}
+
+-- the row of a track, and the rows of a record
+abbrev pub rowOf : Track → Row
+rowOf t = row (t .channel) (take (t .count) (t .levels))
+
+abbrev pub rows : Watch → List Row
+rows w = map rowOf (take (w .watched) (w .tracks))
+
+-- the track of a row, and the record of rows: levels that are not used are 0, and tracks that are not used are all zero
+abbrev pub trackOf : Row → Track
+trackOf r = record { channel = r .channel; count = length (r .levels); levels = padTo capacity (pos 0) (r .levels) }
+
+abbrev pub unused : Track
+unused = trackOf (row 0 [])
+
+abbrev pub recordOf : List Row → Watch
+recordOf rs = record { watched = length rs; tracks = padTo room unused (map trackOf rs) }
+
+-- a fresh watch is idle
+abbrev pub fresh : Watch
+fresh = recordOf []
+
+-- ---- well formed: `Claims.WellFormedIsReachable` says that this is the right test
+
+abbrev pub isZero : ℤ → Bool
+isZero (pos n) = eqb n 0
+isZero (negsuc n) = false
+
+-- n levels in range, and zeros after them
+abbrev pub levelsFine : ℕ → List ℤ → Bool
+levelsFine zero [] = true
+levelsFine (suc n) [] = false
+levelsFine zero (x ∷ xs) = isZero x && levelsFine zero xs
+levelsFine (suc n) (x ∷ xs) = levelInRange x && levelsFine n xs
+
+-- a channel in range, at most 15 levels, in range, and zeros after them
+abbrev pub trackFine : Track → Bool
+trackFine t =
+    channelInRange (t .channel) && ((leb (t .count) depth && eqb (length (t .levels)) capacity) && levelsFine (t .count) (t .levels))
+
+-- all zero
+abbrev pub trackUnused : Track → Bool
+trackUnused t = (eqb (t .channel) 0 && eqb (t .count) 0) && trackFine t
+
+-- n tracks that are fine, and unused ones after them
+abbrev pub tracksFine : ℕ → List Track → Bool
+tracksFine zero [] = true
+tracksFine (suc n) [] = false
+tracksFine zero (t ∷ ts) = trackUnused t && tracksFine zero ts
+tracksFine (suc n) (t ∷ ts) = trackFine t && tracksFine n ts
+
+-- the tracks in use are fine, the others unused, and no channel is there twice
+unfoldable pub wellFormed : Watch → Bool
+wellFormed w = eqb (length (w .tracks)) room && (tracksFine (w .watched) (w .tracks) && distinct (channels (rows w)))
+
+-- ---- calls
+
+-- what a call on a well-formed record hands back: a refusal hands back the very record
+abbrev pub handed : Watch → List Row → Call → Called
+handed w rs k =
+    record {
+      watch = unlessRefused (refusal (shown rs) k) w (recordOf (changedRows rs k));
+      answer = answer (shown rs) k;
+    }
+
+-- what it hands back on any other: the record, and refusal 9
+abbrev pub returned : Watch → Called
+returned w = record { watch = w; answer = refusedFor RecordNotWellFormed }
+
+-- what a call hands back
+unfoldable pub called : Watch → Call → Called
+called w k = cond (wellFormed w) (handed w (rows w) k) (returned w)
+
+-- what the test of well-formedness hands back
+unfoldable pub tested : Watch → Called
+tested w = cond (wellFormed w) (record { watch = w; answer = gives accepted }) (returned w)
+
+-- the answers to a sequence of calls, each given the watch as the one before left it, and the watch after the last of them
+abbrev pub answersFrom : Watch → List Call → List (Told Given)
+answersFrom w [] = []
+answersFrom w (k ∷ ks) = called w k .answer ∷ answersFrom (called w k .watch) ks
+
+abbrev pub afterFrom : Watch → List Call → Watch
+afterFrom w [] = w
+afterFrom w (k ∷ ks) = afterFrom (called w k .watch) ks

@@ -1,0 +1,85 @@
+-- What the calls make of a watch as a list of rows, a row for each channel under watch: the serving channel, then its list in order.
+-- Document 01, section The watch.
+use Prim.Native.Nat.{ℕ}
+use mathlib.Core.Bool.{cond}
+use mathlib.Core.List.{List, [], _∷_, _++_, map}
+use mathlib.Core.Option.{Option, none, some}
+use lib.Dec.{eqb}
+use lib.IntN.{ℤ}
+use Rattle.refusal.specs.Told.{Told, refused, gives}
+use Rattle.readings.specs.Burst.{BurstResult, heard, missed, burstOf}
+use Rattle.watch_rules.specs.Lists.{mem, lastN}
+use Rattle.watch_rules.specs.Limits.{depth}
+use Rattle.watch_rules.specs.Told.{Call, start, newList, move, file, ask, verdict}
+use Rattle.watch_rules.specs.Rules.{View}
+
+-- a channel with its levels, oldest first
+pub record Row : Type 0 where
+  pub channel : ℕ
+  pub levels : List ℤ
+
+abbrev pub row : ℕ → List ℤ → Row
+row c ls = record { channel = c; levels = ls }
+
+abbrev pub channels : List Row → List ℕ
+channels rs = map (λ (r : Row). r .channel) rs
+
+-- the levels that a channel has; none where it has no row
+abbrev pub levelsOf : ℕ → List Row → List ℤ
+levelsOf c [] = []
+levelsOf c (r ∷ rs) = cond (eqb (r .channel) c) (r .levels) (levelsOf c rs)
+
+-- the serving channel; none of an idle watch
+abbrev pub first : List Row → Option ℕ
+first [] = none
+first (r ∷ rs) = some (r .channel)
+
+-- the rows of the neighbours
+abbrev pub rest : List Row → List Row
+rest [] = []
+rest (r ∷ rs) = rs
+
+-- what rows show
+abbrev pub shown : List Row → View
+shown rs = record { serving = first rs; neighbour = λ c. mem c (channels (rest rs)); levels = λ c. levelsOf c rs }
+
+-- these channels, in this order, each with the levels that it had
+abbrev pub relisted : ℕ → List ℕ → List Row → List Row
+relisted s l rs = map (λ c. row c (levelsOf c rs)) (s ∷ l)
+
+-- New list: the serving channel stays, the list takes the neighbours' place
+abbrev pub listed : List ℕ → List Row → List Row
+listed l [] = []
+listed l (r ∷ rs) = relisted (r .channel) l (r ∷ rs)
+
+-- d in the place of c
+abbrev pub inPlaceOf : ℕ → ℕ → List ℕ → List ℕ
+inPlaceOf c d [] = []
+inPlaceOf c d (x ∷ xs) = cond (eqb x c) (d ∷ xs) (x ∷ inPlaceOf c d xs)
+
+-- Move: the neighbour c becomes serving, the old serving channel takes its place in the list
+abbrev pub moved : ℕ → List Row → List Row
+moved c [] = []
+moved c (r ∷ rs) = relisted c (inPlaceOf c (r .channel) (channels rs)) (r ∷ rs)
+
+-- File: a heard level is added as the newest; beyond 15 the oldest goes
+abbrev pub push : ℤ → Row → Row
+push x r = row (r .channel) (lastN depth (r .levels ++ x ∷ []))
+
+abbrev pub pushAt : ℕ → ℤ → List Row → List Row
+pushAt c x [] = []
+pushAt c x (r ∷ rs) = cond (eqb (r .channel) c) (push x r ∷ rs) (r ∷ pushAt c x rs)
+
+abbrev pub filedRows : ℕ → Told BurstResult → List Row → List Row
+filedRows c (gives (heard level quality)) rs = pushAt c level rs
+filedRows c (gives missed) rs = rs
+filedRows c (refused n) rs = rs
+
+-- the rows after an accepted call
+abbrev pub changedRows : List Row → Call → List Row
+changedRows rs (start c) = row c [] ∷ []
+changedRows rs (newList l) = listed l rs
+changedRows rs (move c) = moved c rs
+changedRows rs (file c b) = filedRows c (burstOf b) rs
+changedRows rs (ask c) = rs
+changedRows rs (verdict h) = rs

@@ -1,0 +1,64 @@
+// The neighbour watch: its record and what its calls answer. Document 01, sections The watch and The plain watch.
+// The rules, the plain watch and demand 3 stand in specs/; the calls stand in the crate `watch`.
+ghost use Rattle.watch_rules.specs.Claims.{Demand3, WellFormedIsReachable, ItFollows, Unchanged, AskRule, VerdictRule, PartRule, AnswersDiffer};
+use refusal::Refusal;
+
+// How many levels of a channel make a mean and a sum: older ones go.
+pub const DEPTH: usize = 15;
+
+// How many channels a list may have.
+pub const LIST_LIMIT: usize = 6;
+
+pub const CHANNEL_HIGHEST: u16 = 1087;
+
+// In hundredths of a dB.
+pub const HYSTERESIS_HIGHEST: i32 = 6000;
+
+// How many levels a track has room for, and how many tracks a watch: the serving channel and a list.
+pub const CAPACITY: usize = 15;
+
+pub const ROOM: usize = LIST_LIMIT + 1;
+
+// A channel under watch with its levels in hundredths, oldest first. What lies beyond `count` is 0.
+#[repr(C)]
+pub struct Track {
+    pub channel: u16,
+    pub count: usize,
+    pub levels: [i32; CAPACITY],
+}
+
+// The first `watched` tracks are in use: the serving channel, then its list in the network's order. The others are all zero. An idle
+// watch uses none.
+#[repr(C)]
+pub struct Watch {
+    pub watched: usize,
+    pub tracks: [Track; ROOM],
+}
+
+// What a call answers.
+pub enum Answer {
+    Accepted,
+    Refused(Refusal),
+    Levels { count: usize, mean: i32 },
+    Wait,
+    Stay,
+    MoveTo(u16),
+}
+
+// What a call hands back: the watch beside its answer. Refused, it is the watch that the call was given.
+pub struct Handed {
+    pub watch: Watch,
+    pub answer: Answer,
+}
+
+// Nothing to run: its contract is demand 3 and all else that is claimed of the watch, so that the check asks for the proof of each.
+pub fn claimed()
+    ensures demand3 { λ _. ⌜ Demand3 ⌝ }
+    ensures formed { λ _. ⌜ WellFormedIsReachable ⌝ }
+    ensures follows { λ _. ⌜ ItFollows ⌝ }
+    ensures unchanged { λ _. ⌜ Unchanged ⌝ }
+    ensures ask { λ _. ⌜ AskRule ⌝ }
+    ensures verdict { λ _. ⌜ VerdictRule ⌝ }
+    ensures part { λ _. ⌜ PartRule ⌝ }
+    ensures told { λ _. ⌜ AnswersDiffer ⌝ }
+{}
