@@ -1,0 +1,2 @@
+-- What the table's proof stands on.
+pub mod Choices

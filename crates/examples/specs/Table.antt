@@ -1,0 +1,63 @@
+-- Document 01, section Checked examples: one table, and the one statement that every row of it holds. All lines marked P are in it, each under the
+-- paper's words; so are those that are not, which are run besides.
+use Prim.Native.Nat.{ℕ}
+use mathlib.Core.Path.{_≡_}
+use mathlib.Core.List.{List, [], _∷_}
+use lib.IntN.{pos}
+use Rattle.refusal.specs.Told.{Told, refused, gives}
+use Rattle.readings.specs.Hundredths.{levelOf, qualityOf}
+use Rattle.choice.specs.Choose.{camp, read, noBeam, choosing}
+use Rattle.watch_rules.specs.Told.{ask, verdict, levels, wait, stay, moveTo}
+use Rattle.power.specs.declared.Decoded.the-variants.{Failed, Codes}
+use Rattle.power.specs.Calls.{stepped}
+use Rattle.examples.specs.Given.{minus, single, nothingHeard, threeHeard, nothingRead, threeRead, answerAfter, twoLevels, twoChannels, parameters, atStart, parOf, pansSent}
+
+-- a row: what the definitions give, and what the paper says
+infixl 70 _comesTo_
+pub data Row : Type 1 where
+  _comesTo_ : {A : Type 0} → A → A → Row
+
+abbrev pub table : List Row
+table =
+    -- "P level -100.125 gives -10,013."
+    levelOf (single 0xc2c8_4000) comesTo gives (minus 10013)
+    -- "P quality 0.125 gives 12."
+    ∷ qualityOf (single 0x3e00_0000) comesTo gives (pos 12)
+    -- "P 0.375 gives 37."
+    ∷ qualityOf (single 0x3ec0_0000) comesTo gives (pos 37)
+    -- "P level -150 gives -15,000."
+    ∷ levelOf (single 0xc316_0000) comesTo gives (minus 15000)
+    -- "The next single float below -150 and NaN: refusal 1."
+    ∷ levelOf (single 0xc316_0001) comesTo refused 1
+    ∷ levelOf (single 0x7fc0_0000) comesTo refused 1
+    -- "P margin 300, nothing read: read 100, tried 1."
+    ∷ choosing threeHeard (pos 300) nothingRead comesTo gives (read 100 1)
+    -- "P 100 barred, 200 other network, 300 suitable: camp 300, tried 3."
+    ∷ choosing threeHeard (pos 300) threeRead comesTo gives (camp 300 3)
+    -- "P the same at margin 299: no beam, tried 2."
+    ∷ choosing threeHeard (pos 299) threeRead comesTo gives (noBeam 2)
+    -- "P nothing heard: no beam, tried 0."
+    ∷ choosing nothingHeard (pos 300) nothingRead comesTo gives (noBeam 0)
+    -- "P Two levels -1 and -2: mean -2."
+    ∷ answerAfter twoLevels (ask 100) comesTo gives (levels 2 (minus 2))
+    -- "P Serving 15 times -10,000, a neighbour 15 times -9,700: hysteresis 300 stay, 299 move."
+    ∷ answerAfter (twoChannels 15) (verdict (pos 300)) comesTo gives stay
+    ∷ answerAfter (twoChannels 15) (verdict (pos 299)) comesTo gives (moveTo 200)
+    -- "With 14 levels in the serving channel: wait."
+    ∷ answerAfter (twoChannels 14) (verdict (pos 299)) comesTo gives wait
+    -- "P SQT 85, both gains 10, PANuse 20: SQI 750 gives PAR 17, P 950 gives 22."
+    ∷ parOf (stepped parameters atStart (Codes 20 63) (pos 750) .answer) comesTo gives (pos 17)
+    ∷ parOf (stepped parameters atStart (Codes 20 63) (pos 950) .answer) comesTo gives (pos 22)
+    -- "P PANinit 30, limits 0 and 60, Mestep 3; PAR 20, 40, 40, failed, failed: PAN sent 20, 20, 40, 38, 37."
+    ∷ pansSent atStart (Codes 63 20 ∷ Codes 63 40 ∷ Codes 63 40 ∷ Failed ∷ Failed ∷ [])
+    comesTo (gives (pos 20) ∷ gives (pos 20) ∷ gives (pos 40) ∷ gives (pos 38) ∷ gives (pos 37) ∷ [])
+    ∷ []
+
+-- both sides of a row are the same
+abbrev pub Holds : Row → Type 0
+Holds (a comesTo b) = a ≡ b
+
+-- every row holds
+abbrev pub AllHold : List Row → Type 0
+AllHold [] = Unit {0}
+AllHold (r ∷ rs) = Holds r × AllHold rs
