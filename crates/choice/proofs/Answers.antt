@@ -1,31 +1,29 @@
 -- What is chosen. The first open channel of the near part stands at some place j, and all before it are closed, so none of them is it: its place in
 -- the search order, of which the near part is a beginning, is j + 1.
 use Prim.Native.Nat.{ℕ, zero, suc, _+_, _≤_, _<_}
-use mathlib.Core.Path.{_≡_, refl, sym, ap, _∙_, subst}
-use mathlib.Core.Bool.{Bool, true, false, cond, _&&_, _||_, false≢true}
-use mathlib.Core.List.{List, [], _∷_, _++_, List·Memᴰ, IsPrefix}
+use mathlib.Core.Path.{_≡_, refl, sym, ap, _∙_}
+use mathlib.Core.Bool.{Bool, true, false, cond, _||_, false≢true}
+use mathlib.Core.List.{List, [], _∷_, _++_}
 use mathlib.Core.Logic.{_⊎_, inl, inr, ⊎-elim}
-use mathlib.Core.Option.{Option, none, some}
+use mathlib.Core.Option.{none, some}
 use native.Mathlib.Nat.{not-suc-le-zero}
 use native.Mathlib.Omega.{arith}
 use lib.ListN.{length, getD, length-append, List·getD-append}
 use lib.IntN.{ℤ}
 use lib.Dec.{eqb, leb}
-use borrow.Author.Tests.{eqb-true, eqb-false, eq-eqb, ne-eqb, leb-true}
-use Rattle.refusal.specs.declared.Refusal.the-variants.{SweepUnfinished, ParameterOutOfRange, OutcomesFaulty, RecordNotWellFormed}
-use Rattle.refusal.specs.Told.{Told, gives, refused}
+use borrow.Author.Tests.{eqb-true, eq-eqb, ne-eqb, leb-true}
+use Rattle.refusal.specs.Told.{gives}
 use Rattle.refusal.proofs.OneToOne.{gives-refused}
 use Rattle.sweep.specs.Map.{channels}
 use Rattle.sweep.specs.Record.{levelAt, everyChannel, finished, wellFormed}
-use Rattle.sweep.specs.Filing.{provided}
 use Rattle.sweep.specs.declared.Sweep.{Sweep}
 use Rattle.sweep.proofs.Tests.{which, clash, left, right, all-each}
-use Rattle.choice.specs.Order.{searchOrder, nearOf, nearPart}
+use Rattle.choice.specs.Order.{searchOrder, nearPart}
 use Rattle.choice.specs.Choose.{notRead, suitable, highestOutcome, outcomeAt, outcomesFine, marginInRange, Chosen, camp, read, noBeam, firstOpen, placeIn, answerOf, chosenAmong, chosen, choosing}
 use Rattle.choice.specs.Code.{All}
-use Rattle.choice.specs.Claims.{Passes, Unsuitable}
-use Rattle.choice.proofs.Lists.{all-at, mem-at}
+use Rattle.choice.specs.Claims.{Unsuitable}
 use Rattle.choice.proofs.Ranked.{near-begins}
+use Rattle.choice.proofs.Endings.{says-9, says-8, says-7, says-4, says-chosen}
 
 -- not read yet, or suitable
 abbrev pub isOpen : ℕ → Bool
@@ -154,24 +152,22 @@ pub record Accepted (s : Sweep) (m : ℤ) (o : List ℕ) (a : Chosen) : Type 0 w
   pub is : chosen s m o ≡ a
 
 pub accepted-is : (s : Sweep) (m : ℤ) (o : List ℕ) (a : Chosen) → choosing s m o ≡ gives a → Accepted s m o a
-unfolding choosing
-accepted-is s m o a e = by (wellFormed s) (outcomesFine o) (marginInRange m) (finished s) refl refl refl refl e
+accepted-is s m o a e =
+    let w = holds (wellFormed s) (λ z. gives-refused (sym (says-9 s m o z ∙ e))) in
+    let f = holds (outcomesFine o) (λ z. gives-refused (sym (says-8 s m o w z ∙ e))) in
+    let r = holds (marginInRange m) (λ z. gives-refused (sym (says-7 s m o w f z ∙ e))) in
+    let d = holds (finished s) (λ z. gives-refused (sym (says-4 s m o w f r z ∙ e))) in
+    record { formed = w; fine = f; margin = r; done = d; is = given (chosen s m o) (says-chosen s m o w f r d ∙ e) }
   where
-    given : gives (chosen s m o) ≡ gives a → chosen s m o ≡ a
-    given q = cc
+    holds : (b : Bool) → (b ≡ false → ⊥) → b ≡ true
+    holds true n = refl
+    holds false n = absurd (n refl)
 
-    by : (w f r d : Bool) → wellFormed s ≡ w → outcomesFine o ≡ f → marginInRange m ≡ r → finished s ≡ d
-        → provided w RecordNotWellFormed (provided f OutcomesFaulty (provided r ParameterOutOfRange (provided d SweepUnfinished (gives (chosen s m o))))) ≡ gives a
-        → Accepted s m o a
-    by true true true true w f r d q = record { formed = w; fine = f; margin = r; done = d; is = given q }
-    by true true true false w f r d q = absurd (gives-refused (sym q))
-    by true true false d′ w f r d q = absurd (gives-refused (sym q))
-    by true false r′ d′ w f r d q = absurd (gives-refused (sym q))
-    by false f′ r′ d′ w f r d q = absurd (gives-refused (sym q))
+    given : (c : Chosen) → gives c ≡ gives a → c ≡ a
+    given c q = cc
 
 pub accepts : (s : Sweep) (m : ℤ) (o : List ℕ) (a : Chosen) → Accepted s m o a → choosing s m o ≡ gives a
-unfolding choosing
-accepts s m o a A = rw (A .formed, A .fine, A .margin, A .done, A .is)
+accepts s m o a A = sym (says-chosen s m o (A .formed) (A .fine) (A .margin) (A .done)) ∙ ap gives (A .is)
 
 -- ---- outcome bytes
 

@@ -1,10 +1,10 @@
 -- The claims on the choice, under their names: the laws of `Ranked` for the order, those of `Answers` for the answer. What no near channel is open
 -- means is said of the near part first, and by its law of the channels within the margin.
-use Prim.Native.Nat.{ℕ, zero, suc, _+_, _≤_, _<_}
+use Prim.Native.Nat.{ℕ, suc}
 use mathlib.Core.Path.{_≡_, refl, sym, ap, _∙_, subst}
 use mathlib.Core.Bool.{Bool, true, false, cond}
 use mathlib.Core.List.{List, [], _∷_, List·Memᴰ, List·Memᴰ·head, Memᴰ·cast}
-use mathlib.Core.Logic.{_↔_, _⊎_, inl, inr, ⊎-elim}
+use mathlib.Core.Logic.{_↔_, _⊎_, ⊎-elim}
 use native.Mathlib.Nat.{not-suc-le-zero}
 use native.Mathlib.Omega.{arith}
 use lib.ListN.{length, getD}
@@ -13,17 +13,16 @@ use lib.Dec.{eqb}
 use borrow.Author.Tests.{eqb-true, eqb-false}
 use Rattle.refusal.specs.Told.{Told, gives, refused}
 use Rattle.refusal.proofs.OneToOne.{by-way-back, refusalOf, refusal-back}
-use Rattle.sweep.specs.Map.{channels}
 use Rattle.sweep.specs.Record.{heard}
 use Rattle.sweep.specs.declared.Sweep.{Sweep}
 use Rattle.sweep.proofs.Tests.{which, clash}
 use Rattle.choice.specs.declared.Choice.{Choice}
 use Rattle.choice.specs.declared.Choice.the-variants as choice
 use Rattle.choice.specs.Order.{searchOrder, nearPart}
-use Rattle.choice.specs.Choose.{notRead, suitable, outcomeAt, outcomesFine, Chosen, camp, read, noBeam, firstOpen, placeIn, answerOf, chosenAmong, chosen, choosing}
+use Rattle.choice.specs.Choose.{notRead, suitable, outcomeAt, Chosen, camp, read, noBeam, firstOpen, placeIn, answerOf, chosenAmong, chosen}
 use Rattle.choice.specs.Code.{All}
 use Rattle.choice.specs.Told.{toldChoice}
-use Rattle.choice.specs.Claims.{Passes, SearchOrderRule, NearPartRule, WithinMargin, Unsuitable, Named, AnswerRule, TriedIsPlace, NoBeamExactly, UnheardBytes, AnswersDiffer}
+use Rattle.choice.specs.Claims.{Passes, SearchOrderRule, NearPartRule, WithinMargin, Unsuitable, Named, TriedIsPlace, NoBeamExactly, UnheardBytes, AnswersDiffer}
 use Rattle.choice.proofs.Lists.{all-mem, mem-all, mem-at, all-at}
 use Rattle.choice.proofs.Ranked.{ordered, order-rule, near-rule}
 use Rattle.choice.proofs.Answers.{isOpen, open-cases, above-closed, FirstAt, namedAs, AnswerAt, chosen-at, first-yes, first-no, Accepted, accepted-is, accepts, unsuitable}

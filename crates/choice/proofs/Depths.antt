@@ -1,5 +1,4 @@
 -- The depth of a level as the code computes it: the difference from the top of the range, which is not negative and small for a level in range.
-use Prim.Native.Nat.{ℕ, _+_, _*_, _<_, _^_}
 use mathlib.Core.Path.{_≡_, sym, ap, _∙_, subst}
 use mathlib.Core.Bool.{true}
 use native.Mathlib.Omega.{arith}

@@ -1,11 +1,10 @@
 -- What the definition comes to in each case of its tests, and which case the answer of `sweep::next` tells: refused, the record is not well formed;
 -- done, the sweep is finished; a channel, it is not.
 use Prim.Native.Nat.{ℕ}
-use mathlib.Core.Path.{_≡_, refl, sym, ap, _∙_}
-use mathlib.Core.Bool.{Bool, true, false}
+use mathlib.Core.Path.{_≡_, sym, ap, _∙_}
+use mathlib.Core.Bool.{true, false}
 use mathlib.Core.List.{List, [], _∷_}
-use mathlib.Core.Logic.{_⊎_, inl, inr, ⊎-elim}
-use native.Mathlib.Nat.{not-suc-le-zero}
+use mathlib.Core.Logic.{_⊎_, ⊎-elim}
 use native.Mathlib.Omega.{arith}
 use lib.IntN.{ℤ}
 use denote.Enum.Declared
@@ -19,12 +18,12 @@ use Rattle.sweep.specs.declared.NextChannel.{NextChannel}
 use Rattle.sweep.specs.declared.NextChannel.the-variants as next
 use Rattle.sweep.specs.declared.Sweep.{Sweep}
 use Rattle.sweep.specs.Record.{finished, wellFormed}
-use Rattle.sweep.specs.Next.{Next, channel, done, nextOf, nextTold}
+use Rattle.sweep.specs.Next.{Next, done, nextOf, nextTold}
 use Rattle.sweep.specs.Told.{toldNext}
 use Rattle.sweep.proofs.NextChannel.{the-type}
 use Rattle.sweep.proofs.Tests.{which, fails}
 use Rattle.sweep.proofs.Claims.{nextLowest}
-use Rattle.choice.specs.Choose.{outcomesFine, marginInRange, Chosen, chosen, choosing}
+use Rattle.choice.specs.Choose.{outcomesFine, marginInRange, chosen, choosing}
 
 -- ---- the answers, in the paper's order
 

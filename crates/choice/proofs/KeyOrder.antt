@@ -1,27 +1,27 @@
 -- The keys give the search order. A level in range lies a whole number of hundredths below the top of the range, its depth: a higher level has a
 -- lesser depth, and what one level lies below another is the difference of their depths. With the channel, which is below the step, behind it,
 -- the order of the keys is that of the two keys of the paper.
-use Prim.Native.Nat.{ℕ, zero, suc, _+_, _*_, _/_, _%_, _≤_, _<_}
-use mathlib.Core.Path.{_≡_, refl, sym, ap, _∙_, subst}
-use mathlib.Core.Bool.{Bool, true, false, cond}
+use Prim.Native.Nat.{ℕ, zero, suc, _+_, _/_, _%_, _≤_, _<_}
+use mathlib.Core.Path.{_≡_, refl, sym, ap, _∙_}
+use mathlib.Core.Bool.{Bool, true, false}
 use mathlib.Core.List.{List, [], _∷_, map}
 use mathlib.Core.Logic.{_⊎_, inl, inr, ⊎-elim}
 use native.Mathlib.Nat.{not-suc-le-zero}
 use native.Mathlib.Omega.{arith}
-use lib.ListN.{length, getD}
+use lib.ListN.{length}
 use lib.IntN.{ℤ, natAbs, _-ℤ_}
 use lib.Signed.{leZ, ltZ}
-use lib.Dec.{eqb, leb, ltb}
-use borrow.Author.Tests.{eqb-true, eqb-false, eq-eqb, ne-eqb, leb-true, le-leb, lt-ltb, ltb-true, ltb-false}
+use lib.Dec.{leb, ltb}
+use borrow.Author.Tests.{ne-eqb, leb-true, le-leb, lt-ltb, ltb-true, ltb-false}
 use Rattle.readings.specs.Ranges.{levelLowest, levelHighest, levelInRange}
 use Rattle.sweep.specs.Map.{channels}
 use Rattle.sweep.specs.Record.{levelAt, wellFormed}
 use Rattle.sweep.specs.declared.Sweep.{Sweep}
-use Rattle.sweep.proofs.Tests.{which, clash, left, right, same-test}
+use Rattle.sweep.proofs.Tests.{which, left, right, same-test}
 use Rattle.sweep.proofs.Formed.{wellFormedRule}
-use Rattle.choice.specs.Order.{beginning, sortBy, comesBefore, channelsThat, searchOrder, nearOf, nearPart}
-use Rattle.choice.specs.Choose.{notRead, suitable, outcomeAt, marginLowest, marginHighest, marginInRange, Chosen, camp, read, noBeam, chosenAmong}
-use Rattle.choice.specs.Code.{depth, keyStep, keyOf, keysOf, noKey, All, Apart, Keyed, nearKeys, walkOver, walked}
+use Rattle.choice.specs.Order.{sortBy, comesBefore, channelsThat, searchOrder, atMostBelow, nearOf, nearPart}
+use Rattle.choice.specs.Choose.{notRead, suitable, outcomeAt, marginLowest, noBeam, chosenAmong}
+use Rattle.choice.specs.Code.{depth, keyStep, keyOf, keysOf, passed, All, Apart, Keyed, nearKeys, walkOver, walked}
 use Rattle.choice.specs.Claims.{Passes}
 use Rattle.choice.proofs.Whole.{above, below, le-parts, parts-le, lt-parts, parts-lt, parts-same, sub-parts, sub-size, own-size}
 use Rattle.choice.proofs.Lists.{all-map, mem-all, apart-from, begin-map, sort-map}
@@ -107,7 +107,7 @@ module _ (level : ℕ → ℤ) where
   unfolding nearKeys nearOf
   near-keys m n [] a = refl
   near-keys m n (c ∷ cs) a =
-      begin-map keyAt (λ d. leZ (level c -ℤ level d) m) (λ j. leb (j / keyStep) (keyAt c / keyStep + natAbs m)) (c ∷ cs)
+      begin-map keyAt (λ d. atMostBelow m (level c) (level d)) (λ j. leb (j / keyStep) (keyAt c / keyStep + natAbs m)) (c ∷ cs)
       (all-map (c ∷ cs) (λ d q. key-near m n c d (a .0) q) a)
 
   module _ (o : ℕ → ℕ) where
@@ -187,7 +187,7 @@ module _ (test : ℕ → Bool) (s : Sweep) (w : wellFormed s ≡ true) where
   pub keys-keyed : Keyed (keysOf (levelAt s) (channelsThat test))
   unfolding keysOf
   keys-keyed = record {
-    small = of-images (levelAt s) (λ k. (k % keyStep < channels) × (k < noKey)) (channelsThat test) (all-map (channelsThat test)
+    small = of-images (levelAt s) (λ k. (k % keyStep < channels) × (k < passed)) (channelsThat test) (all-map (channelsThat test)
         (λ c r.
         let e = key-channel (levelAt s) c r in
         let d = depth-le (levelAt s c) (r .1) in

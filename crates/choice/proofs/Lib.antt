@@ -2,10 +2,10 @@
 pub mod Whole
 pub mod Lists
 pub mod Ranked
+pub mod Endings
 pub mod Answers
 pub mod Claims
 pub mod KeyOrder
 pub mod Depths
 pub mod Gathered
 pub mod Turns
-pub mod Endings

@@ -1,13 +1,13 @@
 -- The search order and its near part. The two keys, level and channel, make an order of the channels, so the sorted list is the search order
 -- that the paper describes; the nearer of two is the earlier, so its near part is a beginning.
-use Prim.Native.Nat.{ℕ, zero, suc, _+_, _≤_, _<_}
+use Prim.Native.Nat.{ℕ, _+_, _≤_, _<_}
 use mathlib.Core.Path.{_≡_, refl, sym, ap, _∙_, subst}
 use mathlib.Core.Bool.{Bool, true, false, not, cond, _&&_, _||_, false≢true}
 use mathlib.Core.List.{List, [], _∷_, List·Memᴰ, List·Memᴰ·head, List·Memᴰ·tail, List·Memᴰ·not-nil, List·Memᴰ·cases-cons, Memᴰ·append-left, IsPrefix}
 use mathlib.Core.Logic.{_⊎_, inl, inr, ⊎-elim}
-use native.Mathlib.Nat.{not-suc-le-zero, eq-or-lt-of-le, lt-irrefl}
+use native.Mathlib.Nat.{eq-or-lt-of-le, lt-irrefl}
 use native.Mathlib.Omega.{arith}
-use lib.ListN.{length, getD}
+use lib.ListN.{getD}
 use lib.IntN.{ℤ, _-ℤ_}
 use lib.Signed.{leZ, ltZ, _≤ℤ_, _<ℤ_}
 use lib.Dec.{T, ltb}
@@ -16,11 +16,11 @@ use Rattle.sweep.specs.Map.{channels}
 use Rattle.sweep.specs.Record.{levelAt}
 use Rattle.sweep.specs.declared.Sweep.{Sweep}
 use Rattle.sweep.proofs.Tests.{which, clash}
-use Rattle.choice.specs.Order.{from, keep, beginning, sortBy, comesBefore, channelsThat, searchOrder, nearOf, nearPart}
+use Rattle.choice.specs.Order.{from, beginning, comesBefore, channelsThat, searchOrder, atMostBelow, nearOf, nearPart}
 use Rattle.choice.specs.Code.{All}
 use Rattle.choice.specs.Claims.{Passes, Before, OrderRule, Strongest, WithinMargin, NearRule}
 use Rattle.choice.proofs.Whole.{above, below, le-parts, parts-le, lt-parts, parts-lt, not-lt-parts, parts-not-lt, parts-same, sub-parts}
-use Rattle.choice.proofs.Lists.{all-map, all-mem, mem-all, all-keep, mem-keep, all-from, mem-from, apart-from, begin-prefix, begin-passes, all-sort, mem-sort, Sorted, sorted-at, Ordering, sort-sorted}
+use Rattle.choice.proofs.Lists.{all-map, all-mem, all-keep, mem-keep, all-from, mem-from, apart-from, begin-prefix, begin-passes, all-sort, mem-sort, Sorted, sorted-at, Ordering, sort-sorted}
 
 -- ---- tests and facts
 
@@ -163,7 +163,7 @@ both-highest x y p q = let a = le-parts x y p in let b = le-parts y x q in parts
 pub near-begins : (level : ℕ → ℤ) (m : ℤ) (cs : List ℕ) → IsPrefix (nearOf level m cs) cs
 unfolding nearOf
 near-begins level m [] = ([], refl)
-near-begins level m (c ∷ cs) = begin-prefix (λ d. leZ (level c -ℤ level d) m) (c ∷ cs)
+near-begins level m (c ∷ cs) = begin-prefix (λ d. atMostBelow m (level c) (level d)) (c ∷ cs)
 
 -- of a sorted list, the near part holds exactly those at most the margin below the first
 module _ (level : ℕ → ℤ) (m : ℤ) (c : ℕ) (cs : List ℕ) (o : Sorted (comesBefore level) (c ∷ cs)) where
@@ -173,7 +173,7 @@ module _ (level : ℕ → ℤ) (m : ℤ) (c : ℕ) (cs : List ℕ) (o : Sorted (
 
   in-near : (x : ℕ) → List·Memᴰ x (nearOf level m (c ∷ cs)) → leZ (level c -ℤ level x) m ≡ true
   unfolding nearOf
-  in-near x i = all-mem (λ d. leZ (level c -ℤ level d) m ≡ true) (nearOf level m (c ∷ cs)) (begin-passes (λ d. leZ (level c -ℤ level d) m) (c ∷ cs)) x i
+  in-near x i = all-mem (λ d. leZ (level c -ℤ level d) m ≡ true) (nearOf level m (c ∷ cs)) (begin-passes (λ d. atMostBelow m (level c) (level d)) (c ∷ cs)) x i
 
   first-highest : (x : ℕ) → List·Memᴰ x (c ∷ cs) → leZ (level x) (level c) ≡ true
   first-highest x i = ⊎-elim

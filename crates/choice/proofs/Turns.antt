@@ -1,23 +1,23 @@
 -- What the two loops of `walk` keep, and how each turn goes on. The scan keeps the least key from `from` on among those passed; the outer loop keeps
 -- that the walk over what is left of the order, with the number tried so far, comes to what the walk over all of it does.
-use Prim.Native.Nat.{ℕ, zero, suc, _+_, _/_, _%_, _≤_, _<_, min}
+use Prim.Native.Nat.{ℕ, suc, _+_, _/_, _%_, _≤_, _<_, min}
 use mathlib.Core.Path.{_≡_, refl, sym, ap, _∙_, subst}
-use mathlib.Core.Bool.{Bool, true, false, cond, _&&_}
+use mathlib.Core.Bool.{Bool, true, false, cond}
 use mathlib.Core.List.{List, [], _∷_, List·Memᴰ, Memᴰ·cast}
 use mathlib.Core.Logic.{_⊎_, inl, inr, ⊎-elim}
-use native.Mathlib.Nat.{not-suc-le-zero, eq-or-lt-of-le, le-of-suc-le-suc}
+use native.Mathlib.Nat.{not-suc-le-zero, eq-or-lt-of-le}
 use native.Mathlib.Numerals.{add-one}
 use native.Mathlib.Omega.{arith}
 use lib.ListN.{length, getD, take}
 use lib.Seq.{length-take-le, getD-take}
-use lib.Dec.{eqb, leb, ltb}
-use borrow.Author.Tests.{eq-eqb, ne-eqb, leb-true, leb-false, le-leb, lt-leb, ltb-true, ltb-false, lt-ltb}
+use lib.Dec.{leb, ltb}
+use borrow.Author.Tests.{ne-eqb, leb-true, leb-false, le-leb, lt-leb, ltb-true, ltb-false}
 use Rattle.sweep.specs.Map.{channels}
-use Rattle.sweep.proofs.Tests.{which, clash, both, left, right}
+use Rattle.sweep.proofs.Tests.{which}
 use Rattle.choice.specs.Order.{keep, beginning, sortBy}
 use Rattle.choice.specs.Choose.{notRead, suitable, outcomeAt, Chosen, camp, read, noBeam}
-use Rattle.choice.specs.Code.{All, Keyed, keyStep, noKey, lesserOf, nearKeys, walkOver, walked, Walkable}
-use Rattle.choice.proofs.Lists.{all-map, all-at, at-all, mem-at, keep-yes, keep-no, length-keep, all-sort, mem-sort, length-sort, Sorted, sort-sorted, rising, none-from, all-left, next-from}
+use Rattle.choice.specs.Code.{All, Keyed, keyStep, passed, lesserOf, nearKeys, walkOver, walked, Walkable}
+use Rattle.choice.proofs.Lists.{all-at, at-all, mem-at, length-keep, all-sort, mem-sort, length-sort, sort-sorted, rising, none-from, all-left, next-from}
 
 -- ---- the keys in order
 
@@ -45,28 +45,27 @@ module _ (ks : List ℕ) where
 
 pub record Least (list : List ℕ) (count from best i : ℕ) : Type 0 where
   pub low : (j : ℕ) → j < i → from ≤ getD list j 0 → best ≤ getD list j 0
-  pub is : (best ≡ noKey) ⊎ ((j : ℕ) × (j < count) × (getD list j 0 ≡ best) × (from ≤ best))
-  pub most : best ≤ noKey
+  pub is : (passed ≤ best) ⊎ ((j : ℕ) × (j < count) × (getD list j 0 ≡ best) × (from ≤ best))
 
 one-more : (j i : ℕ) → j < i + 1 → (j ≡ i) ⊎ (j < i)
 one-more j i h = let g : j ≤ i = omega arith in eq-or-lt-of-le g
 
-pub least-start : (list : List ℕ) (count from : ℕ) → Least list count from noKey 0
-least-start list count from = record { low = λ j h g. absurd (not-suc-le-zero h); is = inl refl; most = omega arith }
+pub least-start : (list : List ℕ) (count from : ℕ) → Least list count from passed 0
+least-start list count from = record { low = λ j h g. absurd (not-suc-le-zero h); is = inl (omega arith) }
 
 pub least-turn : {list : List ℕ} {count from best i : ℕ} → Least list count from best i → i < count → Least list count from (lesserOf from (getD list i 0) best) (i + 1)
 least-turn {list} {count} {from} {best} {i} L h =
     let k = getD list i 0 in
-    let m = L .most in
     ⊎-elim
     (λ (e : ltb k from ≡ true).
     let b = ltb-true k from e in
-    let same : min noKey best ≡ best = omega arith in
-    rw (e, same)
+    rw e
     (record {
-      low = λ j l g. ⊎-elim (λ (q : j ≡ i). let f = ap (λ (x : ℕ). getD list x 0) q in absurd (not-suc-le-zero {n = 0} (omega arith))) (λ (n : j < i). L .low j n g) (one-more j i l);
-      is = L .is;
-      most = m;
+      low = λ j l g. ⊎-elim (λ (q : j ≡ i). let f = ap (λ (x : ℕ). getD list x 0) q in absurd (not-suc-le-zero {n = 0} (omega arith))) (λ (n : j < i). let t = L .low j n g in omega arith) (one-more j i l);
+      is = ⊎-elim
+          (λ (t : ltb (k + passed) best ≡ true). let s = ltb-true (k + passed) best t in inl (omega arith))
+          (λ (t : ltb (k + passed) best ≡ false). let s = ltb-false (k + passed) best t in let same : min (k + passed) best ≡ best = omega arith in rw same (L .is))
+          (which (ltb (k + passed) best));
     }))
     (λ (e : ltb k from ≡ false).
     let b = ltb-false k from e in
@@ -77,7 +76,6 @@ least-turn {list} {count} {from} {best} {i} L h =
           (λ (t : ltb k best ≡ true). let s = ltb-true k best t in inr (i, h, omega arith, omega arith))
           (λ (t : ltb k best ≡ false). let s = ltb-false k best t in let same : min k best ≡ best = omega arith in rw same (L .is))
           (which (ltb k best));
-      most = omega arith;
     }))
     (which (ltb k from))
 
@@ -121,7 +119,7 @@ module _ (list : List ℕ) (count m : ℕ) (o : List ℕ) where
   -- k is the next key of the order
   pub record NextKey (from k : ℕ) : Type 0 where
     pub channel : k % keyStep < channels
-    pub small : k < noKey
+    pub small : k < passed
     pub rest : leftFrom from ≡ k ∷ leftFrom (suc k)
 
 module _ {list : List ℕ} {count m : ℕ} {o : List ℕ} (W : Walkable list count m o) where
@@ -138,13 +136,13 @@ module _ {list : List ℕ} {count m : ℕ} {o : List ℕ} (W : Walkable list cou
   each : (P : ℕ → Type 0) → ((i : ℕ) → i < count → P (getD list i 0)) → All P ks
   each P f = at-all P ks (λ i h. let l = keys-long in let g : i < count = omega arith in subst P (sym (key-at i g)) (f i g))
 
-  small-at : (i : ℕ) → i < count → (getD list i 0 % keyStep < channels) × (getD list i 0 < noKey)
+  pub small-at : (i : ℕ) → i < count → (getD list i 0 % keyStep < channels) × (getD list i 0 < passed)
   small-at i h = let l = keys-long in
-      subst (λ (k : ℕ). (k % keyStep < channels) × (k < noKey)) (key-at i h)
-      (all-at (λ k. (k % keyStep < channels) × (k < noKey)) ks (W .keyed .small) i (omega arith))
+      subst (λ (k : ℕ). (k % keyStep < channels) × (k < passed)) (key-at i h)
+      (all-at (λ k. (k % keyStep < channels) × (k < passed)) ks (W .keyed .small) i (omega arith))
 
   -- the scan is at its end: nothing is left, or the next key is found
-  least-none : {from best i : ℕ} → Least list count from best i → i ≡ count → best ≡ noKey → leftFrom list count m o from ≡ []
+  least-none : {from best i : ℕ} → Least list count from best i → i ≡ count → passed ≤ best → leftFrom list count m o from ≡ []
   least-none {from} {best} {i} L e q = rest-none ks from (each (λ k. k < from) (λ j h.
       let s = small-at j h .1 in
       ⊎-elim
@@ -152,11 +150,11 @@ module _ {list : List ℕ} {count m : ℕ} {o : List ℕ} (W : Walkable list cou
       (λ (t : leb from (getD list j 0) ≡ false). leb-false from (getD list j 0) t)
       (which (leb from (getD list j 0)))))
 
-  pub least-next : {from best i : ℕ} → Least list count from best i → i ≡ count → (best ≡ noKey → ⊥) → NextKey list count m o from best
+  pub least-next : {from best i : ℕ} → Least list count from best i → i ≡ count → best < passed → NextKey list count m o from best
   least-next {from} {best} {i} L e q = ⊎-elim
-      (λ (z : best ≡ noKey). absurd (q z))
+      (λ (z : passed ≤ best). absurd (not-suc-le-zero {n = 0} (omega arith)))
       (λ (w : (j : ℕ) × (j < count) × (getD list j 0 ≡ best) × (from ≤ best)).
-      let s = subst (λ (k : ℕ). (k % keyStep < channels) × (k < noKey)) (w .2) (small-at (w .0) (w .1)) in
+      let s = subst (λ (k : ℕ). (k % keyStep < channels) × (k < passed)) (w .2) (small-at (w .0) (w .1)) in
       let l = keys-long in
       record {
         channel = s .0;
@@ -177,16 +175,16 @@ module _ {list : List ℕ} {count m : ℕ} {o : List ℕ} (W : Walkable list cou
     same = ap (λ (l : List ℕ). walkOver (outcomeAt o) (beginning (isNear list count m o) l) 0) (rest-start ks) ∙ sym (ap (λ (l : List ℕ). walkOver (outcomeAt o) l 0) (near-top m (inOrder ks)));
   }
 
-  pub top-small : top list count m o ≤ noKey / keyStep
+  pub top-small : top list count m o ≤ passed / keyStep
   unfolding top topOf
-  top-small = by (inOrder ks) (all-sort ltb (λ k. (k % keyStep < channels) × (k < noKey)) ks (W .keyed .small))
+  top-small = by (inOrder ks) (all-sort ltb (λ k. (k % keyStep < channels) × (k < passed)) ks (W .keyed .small))
     where
-      by : (js : List ℕ) → All (λ k. (k % keyStep < channels) × (k < noKey)) js → topOf js ≤ noKey / keyStep
+      by : (js : List ℕ) → All (λ k. (k % keyStep < channels) × (k < passed)) js → topOf js ≤ passed / keyStep
       by [] a = omega arith
       by (k ∷ js) a = omega (arith, a .0 .1)
 
   -- nothing is left
-  pub says-end : {from strongest tried best i : ℕ} → Walked list count m o from strongest tried → Least list count from best i → i ≡ count → best ≡ noKey → noBeam tried ≡ walked ks m o
+  pub says-end : {from strongest tried best i : ℕ} → Walked list count m o from strongest tried → Least list count from best i → i ≡ count → passed ≤ best → noBeam tried ≡ walked ks m o
   unfolding fromHere beginning walkOver
   says-end {from} {tried = tried} D L e q = sym (ap (λ (l : List ℕ). walkOver (outcomeAt o) (beginning (isNear list count m o) l) tried) (least-none L e q)) ∙ D .same
 

@@ -9,9 +9,7 @@ use lib.IntN.{ℤ, natAbs, _-ℤ_}
 use lib.Dec.{eqb, leb, ltb}
 use Rattle.readings.specs.Ranges.{levelHighest}
 use Rattle.sweep.specs.Map.{channels}
-use Rattle.sweep.specs.Record.{levelAt}
-use Rattle.sweep.specs.declared.Sweep.{Sweep}
-use Rattle.choice.specs.Order.{beginning, sortBy, channelsThat}
+use Rattle.choice.specs.Order.{beginning, sortBy}
 use Rattle.choice.specs.Choose.{notRead, suitable, outcomeAt, marginHighest, Chosen, camp, read, noBeam}
 
 -- how far a level lies below the top of its range
@@ -30,9 +28,9 @@ keyOf level c = depth level * keyStep + c
 unfoldable pub keysOf : (ℕ → ℤ) → List ℕ → List ℕ
 keysOf level cs = map (λ c. keyOf (level c) c) cs
 
--- greater than any key
-abbrev pub noKey : ℕ
-noKey = 4294967295
+-- greater than any key; the scan adds it to the keys that it has passed
+abbrev pub passed : ℕ
+passed = 1073741824
 
 -- a property of each element
 abbrev pub All : (ℕ → Type 0) → List ℕ → Type 0
@@ -46,12 +44,12 @@ Apart (c ∷ cs) = All (λ d. c ≡ d → ⊥) cs × Apart cs
 
 -- what the walk asks of the keys: each is of a channel and small, and no two are the same
 pub record Keyed (ks : List ℕ) : Type 0 where
-  pub small : All (λ k. (k % keyStep < channels) × (k < noKey)) ks
+  pub small : All (λ k. (k % keyStep < channels) × (k < passed)) ks
   pub apart : Apart ks
 
--- what the scan keeps: the lesser of `next` and a key, which does not count where it is below `from`
+-- what the scan keeps: the lesser of `next` and a key; one below `from` counts as greater than all others
 abbrev pub lesserOf : ℕ → ℕ → ℕ → ℕ
-lesserOf from key next = min (cond (ltb key from) noKey key) next
+lesserOf from key next = min (cond (ltb key from) (key + passed) key) next
 
 -- the keys at most m deeper than the first
 unfoldable pub nearKeys : ℕ → List ℕ → List ℕ

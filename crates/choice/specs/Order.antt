@@ -46,10 +46,15 @@ channelsThat test = keep test (from channels 0)
 unfoldable pub searchOrder : (ℕ → Bool) → Sweep → List ℕ
 searchOrder test s = sortBy (comesBefore (levelAt s)) (channelsThat test)
 
+-- a level is at most the margin below the strongest
+abbrev pub atMostBelow : ℤ → ℤ → ℤ → Bool
+atMostBelow margin strongest level = leZ (strongest -ℤ level) margin
+
 -- the near part of a search order is its beginning: the channels whose level is at most the margin below that of the first, the strongest
 unfoldable pub nearOf : (ℕ → ℤ) → ℤ → List ℕ → List ℕ
 nearOf level margin [] = []
-nearOf level margin (c ∷ cs) = beginning (λ d. leZ (level c -ℤ level d) margin) (c ∷ cs)
+nearOf level margin (c ∷ cs) = beginning (λ d. atMostBelow margin (level c) (level d)) (c ∷ cs)
 
+-- the near part of the search order over the channels that pass a test
 unfoldable pub nearPart : (ℕ → Bool) → Sweep → ℤ → List ℕ
 nearPart test s margin = nearOf (levelAt s) margin (searchOrder test s)

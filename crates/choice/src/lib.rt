@@ -10,7 +10,7 @@ ghost use Rattle.sweep.specs.Record.{heard, levelAt, wellFormed};
 ghost use Rattle.choice.specs.Order.{channelsThat};
 ghost use Rattle.choice.specs.Choose.{marginInRange, outcomesFine, choosing};
 ghost use Rattle.choice.specs.Told.{toldChoice};
-ghost use Rattle.choice.specs.Code.{keyOf, keysOf, lesserOf, Listed, Walkable, walked};
+ghost use Rattle.choice.specs.Code.{keyOf, keysOf, passed, lesserOf, Listed, Walkable, walked};
 ghost use Rattle.choice.specs.Claims.{SearchOrderRule, NearPartRule, TriedIsPlace, NoBeamExactly, UnheardBytes, AnswersDiffer};
 use readings::LEVEL_HIGHEST;
 use refusal::Refusal;
@@ -25,6 +25,7 @@ pub enum Choice {
     Refused(Refusal),
 }
 
+// A sweep and what is chosen over it.
 pub struct SweepChoice {
     pub sweep: Sweep,
     pub answer: Choice,
@@ -49,14 +50,14 @@ const SUITABLE: u8 = 1;
 const HIGHEST_OUTCOME: u8 = 5;
 
 // The search order by one number for each channel, its key: how far the level lies below the top of its range, times KEY_STEP, and the
-// channel. A lesser key comes first. No key is as great as NO_KEY.
+// channel. A lesser key comes first. No key is as great as PASSED, which the scan adds to those that it has passed.
 const KEY_STEP: u32 = 2048;
 
-const NO_KEY: u32 = 0xffff_ffff;
+const PASSED: u32 = 0x4000_0000;
 
 // The keys of the heard channels: the first `count` of the list.
 struct Keys {
-    list: [u32; 1088],
+    list: [u32; CHANNELS],
     count: usize,
 }
 
@@ -108,7 +109,7 @@ fn heard_keys(s: Sweep) -> Keys
 {
     let levels = s.levels;
     let heard = s.heard;
-    let mut list = [0u32; 1088];
+    let mut list = [0u32; CHANNELS];
     let mut count = 0;
     let mut c = 0;
     while c < CHANNELS {
@@ -122,17 +123,18 @@ fn heard_keys(s: Sweep) -> Keys
     Keys { list, count }
 }
 
-// The lesser of `next` and a key, which does not count where it is below `from`.
+// The lesser of `next` and a key; one below `from`, which was passed, counts as greater than all others.
 fn lesser(from: u32, key: u32, next: u32) -> u32
+    requires { ⌜ key < passed ⌝ }
     ensures { λ r. ⌜ r ≡ lesserOf from key next ⌝ }
 {
-    let k = if key < from { NO_KEY } else { key };
+    let k = if key < from { key + PASSED } else { key };
     if k < next { k } else { next }
 }
 
 // Goes through the search order, each next channel found by a scan for the least key that is not below `from`, and takes the first near
 // one with outcome 0 or 1.
-fn walk(keys: &[u32; 1088], count: usize, margin: u32, outcomes: &[u8]) -> Choice
+fn walk(keys: &[u32; CHANNELS], count: usize, margin: u32, outcomes: &[u8]) -> Choice
     requires { ⌜ Walkable (now keys) count margin (now outcomes) ⌝ }
     ensures { λ r. ⌜ toldChoice r ≡ gives (walked (take count (now (keys .entry))) margin (now (outcomes .entry))) ⌝ }
 {
@@ -140,11 +142,11 @@ fn walk(keys: &[u32; 1088], count: usize, margin: u32, outcomes: &[u8]) -> Choic
     let mut strongest = 0;
     let mut tried = 0;
     'order: loop {
-        let mut next = NO_KEY;
+        let mut next = PASSED;
         let mut i = 0;
         'scan: loop {
             if i == count {
-                if next == NO_KEY {
+                if PASSED <= next {
                     break 'order Choice::NoBeam { tried };
                 }
                 break 'scan;
@@ -173,6 +175,7 @@ fn walk(keys: &[u32; 1088], count: usize, margin: u32, outcomes: &[u8]) -> Choic
     }
 }
 
+// A refusal, with the sweep that the call was given.
 fn refused(sweep: Sweep, why: Refusal) -> SweepChoice
     ensures { λ r. ⌜ (r .sweep ≡ sweep) × (toldChoice (r .answer) ≡ refusedFor why) ⌝ }
 {

@@ -1,10 +1,10 @@
 -- `choose` meets its contract: each return is one of the endings of the definition, told apart by the answer of `sweep::next` and the two tests.
-use Prim.Native.Nat.{ℕ, _+_, _≤_}
+use Prim.Native.Nat.{ℕ, _≤_}
 use mathlib.Core.Path.{_≡_, refl, sym, ap, _∙_, subst}
-use mathlib.Core.Bool.{true, false}
+use mathlib.Core.Bool.{true}
 use mathlib.Core.List.{List}
 use native.Mathlib.Omega.{arith}
-use lib.ListN.{length, take}
+use lib.ListN.{take}
 use lib.IntN.{ℤ, natAbs}
 use lib.Signed.{leZ, nonNeg}
 use lib.Dec.{T}
@@ -12,29 +12,19 @@ use mir.Syntax.{w32}
 use mir.Val.{toZ, ofZ}
 use mir.ValLaws.{toZ-ofZ}
 use borrow.Author.Tests.{not-true, not-false}
-use Rattle.refusal.specs.Told.{Told, gives}
-use Rattle.sweep.specs.declared.Sweep.{Sweep}
-use Rattle.sweep.specs.Record.{heard, levelAt, wellFormed, finished}
+use Rattle.refusal.specs.Told.{gives}
+use Rattle.sweep.specs.Record.{heard, wellFormed, finished}
 use Rattle.sweep.specs.Told.{toldNext}
 use Rattle.sweep.proofs.Tests.{left, right}
-use Rattle.choice.specs.Order.{channelsThat}
-use Rattle.choice.specs.Choose.{marginLowest, marginHighest, marginInRange, outcomesFine, Chosen, chosen, chosenAmong}
+use Rattle.choice.specs.Choose.{marginLowest, marginHighest, marginInRange, outcomesFine, chosen}
 use Rattle.choice.specs.Code.{Keyed, walked}
 use Rattle.choice.proofs.Whole.{not-negative, size-le}
 use Rattle.choice.proofs.Answers.{fine-length}
 use Rattle.choice.proofs.KeyOrder.{walk-chooses, keys-keyed}
-use Rattle.choice.proofs.Endings.{says-9, says-8, says-7, says-4, says-chosen, next-refused, next-formed, next-unfinished, next-finished}
+use Rattle.choice.proofs.Endings.{says-8, says-7, says-4, says-chosen, next-refused, next-formed, next-unfinished, next-finished}
 use borrow.Author.Needs.{needs}
 use Rattle.choice.proofs.choose.Statement.{statement}
 use Rattle.choice.proofs.choose.Tie as tie
-use Rattle.choice.proofs.choose.Reads as reads
-use Rattle.choice.proofs.choose.Lts as lts
-use Rattle.choice.proofs.heard_keys.Reads as heard-keys-reads
-use Rattle.choice.proofs.margin_in_range.Reads as margin-in-range-reads
-use Rattle.choice.proofs.outcomes_fine.Reads as outcomes-fine-reads
-use Rattle.choice.proofs.refused.Reads as refused-reads
-use Rattle.choice.proofs.walk.Reads as walk-reads
-use Rattle.sweep.proofs.next.Reads as next-reads
 
 -- the margin, as it is read back from its bits
 margin-back : (c : tie.Start) → toZ w32 (ofZ w32 (c .args .margin)) ≡ c .args .margin

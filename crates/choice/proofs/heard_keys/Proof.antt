@@ -1,14 +1,12 @@
 -- `heard_keys` meets its contract. The loop's invariant is `Gathered`: the list begins with the keys of the heard channels passed.
 use Prim.Native.Nat.{ℕ, _+_, _-_, _≤_, _<_}
-use mathlib.Core.Path.{_≡_, sym, ap, _∙_, subst}
-use mathlib.Core.Bool.{true}
+use mathlib.Core.Path.{sym, ap, _∙_, subst}
 use mathlib.Core.List.{List}
 use mathlib.Core.Logic.{⊎-elim}
 use native.Mathlib.Omega.{arith}
 use lib.ListN.{getD, set}
 use lib.IntN.{ℤ, pos}
 use mir.Syntax.{w32}
-use mir.Val.{toZ, ofZ}
 use mir.ValLaws.{toZ-ofZ}
 use Rattle.readings.specs.Ranges.{levelInRange}
 use Rattle.sweep.specs.Map.{channels, isSet}
@@ -18,10 +16,6 @@ use Rattle.choice.specs.Code.{keyOf}
 use Rattle.choice.proofs.Gathered.{Gathered, gathered-start, gathered-same, gathered-new, gathered-end}
 use Rattle.choice.proofs.heard_keys.Statement.{statement}
 use Rattle.choice.proofs.heard_keys.Tie as tie
-use Rattle.choice.proofs.heard_keys.Reads as reads
-use Rattle.choice.proofs.heard_keys.Lts as lts
-use Rattle.choice.proofs.is_set.Reads as is-set-reads
-use Rattle.choice.proofs.key.Reads as key-reads
 
 abbrev Inv-loop : tie.InvT-loop
 Inv-loop levels heard list₀ count₀ c₀ list count c = (c ≤ channels) × Gathered (isSet heard) (λ d. getD levels d (pos 0)) list count c

@@ -7,8 +7,7 @@ use native.Mathlib.Omega.{arith}
 use lib.ListN.{length}
 use lib.Arith.{lt-of-le-ne}
 use Rattle.refusal.specs.Told.{gives}
-use Rattle.choice.proofs.Turns.{Least, least-start, least-turn, NextKey, least-next, leftFrom, top, Walked, walked-start, top-small, says-end, first-top, less, says-far, says-read, says-camp, walked-on}
-use borrow.Author.Needs.{needs}
+use Rattle.choice.proofs.Turns.{Least, least-start, least-turn, small-at, NextKey, least-next, leftFrom, top, Walked, walked-start, top-small, says-end, first-top, less, says-far, says-read, says-camp, walked-on}
 use Rattle.choice.proofs.walk.Statement.{statement}
 use Rattle.choice.proofs.walk.Tie as tie
 
@@ -67,7 +66,7 @@ element-copy-out-k : tie.Need-element-copy-out-k Inv-scan μ-scan Inv-order μ-o
 element-copy-out-k c = let h = inside c in let f = turn c .pre .few in omega arith
 
 lesser-requires : tie.Need-lesser-requires Inv-scan μ-scan Inv-order μ-order
-lesser-requires c κs = search needs
+lesser-requires c κs = small-at (turn (c .before) .pre) (c .before .before .scan .i) (inside (c .before)) .1
 
 add-i : tie.Need-add-i Inv-scan μ-scan Inv-order μ-order
 add-i c = let h = inside (c .before .before) in omega arith
