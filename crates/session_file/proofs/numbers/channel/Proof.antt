@@ -1,0 +1,66 @@
+-- `session_file::numbers::channel` meets its contract: by the laws of natural numbers up to a highest.
+use Rattle.session_file.proofs.Wholes.{natural-within, natural-above, natural-zero, natural-below, natural-none}
+use Rattle.session_file.specs.Code.{toldWhole}
+use Rattle.session_file.specs.Numbers.{wholeOf}
+use lib.IntN.{pos, negℤ}
+use mathlib.Core.Option.{none, some}
+use mathlib.Core.Path.{_≡_, sym, ap, _∙_}
+use borrow.Author.Needs.{needs}
+use Rattle.session_file.proofs.numbers.channel.Statement.{statement}
+use Rattle.session_file.proofs.numbers.channel.Tie as tie
+use Rattle.session_file.proofs.numbers.channel.Reads as reads
+use Rattle.session_file.proofs.numbers.channel.Lts as lts
+use Rattle.session_file.proofs.numbers.whole.Reads as whole-reads
+
+whole-requires : tie.Need-whole-requires
+whole-requires c κs = search needs
+
+enum-known-v : tie.Need-enum-known-v
+enum-known-v c = search needs
+
+cast-t8 : tie.Need-cast-t8
+cast-t8 c = search needs
+
+enum-known-v-2 : tie.Need-enum-known-v-2
+enum-known-v-2 c = search needs
+
+enum-told : tie.Need-enum-told
+enum-told c = search needs
+
+returns : tie.Need-returns
+returns c =
+    let v = c .before .before .v .given in
+    natural-within 65535 _ (v .0 .0) (ap toldWhole (sym (v .1)) ∙ c .before .before .before .before .whole .ensures) (c .if1 .taken)
+
+returns-2 : tie.Need-returns-2
+returns-2 c =
+    let v = c .before .before .v .given in
+    natural-above 65535 _ (v .0 .0) (ap toldWhole (sym (v .1)) ∙ c .before .before .before .before .whole .ensures) (c .if1 .left)
+
+returns-3 : tie.Need-returns-3
+returns-3 c =
+    let v = c .before .before .v2 .given in
+    natural-zero 65535 _ (v .0 .0) (ap toldWhole (sym (v .1)) ∙ c .before .before .before .before .whole .ensures) (c .if2 .taken)
+
+returns-4 : tie.Need-returns-4
+returns-4 c =
+    let v = c .before .before .v2 .given in
+    natural-below 65535 _ (v .0 .0) (ap toldWhole (sym (v .1)) ∙ c .before .before .before .before .whole .ensures) (c .if2 .left)
+
+returns-5 : tie.Need-returns-5
+returns-5 c = natural-none 65535 _ (ap toldWhole (sym (c .enum-told .given .1)) ∙ c .before .before .whole .ensures)
+
+pub channel-spec : {M : Type 1} → statement M
+channel-spec =
+    tie.close
+    (tie.spec
+    whole-requires
+    enum-known-v
+    cast-t8
+    enum-known-v-2
+    enum-told
+    returns
+    returns-2
+    returns-3
+    returns-4
+    returns-5)
