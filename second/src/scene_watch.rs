@@ -1,0 +1,368 @@
+//! Scenes of the watch: full means with sums at the turn of a verdict, lists in other orders, dropped channels, moves.
+
+use crate::limits::{DEPTH, HIGHEST_CHANNEL, LEVEL_RANGE, MOST_NEIGHBOURS};
+use crate::script::Script;
+use crate::words::whole_word;
+
+/// How many levels of each channel are planned.
+const PLANNED: i32 = DEPTH as i32;
+
+/// What a planned watch aims at.
+struct Plan {
+    hysteresis: i32,
+    list: Vec<i32>,
+    strange: i32,
+    /// Each channel with the levels still to be filed under it, the next one last.
+    queues: Vec<(i32, Vec<i32>)>,
+}
+
+/// A watch planned so that its verdict turns at one hysteresis; levels are filed in any order, with turns between.
+pub fn planned_watch(script: &mut Script) {
+    let mut plan = plan(script);
+    let serving = plan.queues[0].0;
+    script.add(format!("start {serving}").into_bytes());
+    say_list(script, &plan.list);
+    while !plan.queues.is_empty() {
+        let place = script.dice.below(plan.queues.len());
+        let channel = plan.queues[place].0;
+        match plan.queues[place].1.pop() {
+            Some(level) => {
+                let burst = script.heard(level);
+                script.say(&format!("file {channel} {burst}"));
+            }
+            None => {
+                plan.queues.swap_remove(place);
+            }
+        }
+        if script.dice.one_in(7) {
+            harmless_turn(script, &plan);
+        }
+    }
+    finale(script, &plan);
+}
+
+/// Eight different channels, often with the ends among them.
+fn eight_channels(script: &mut Script) -> Vec<i32> {
+    let mut channels = vec![];
+    while channels.len() < 8 {
+        let channel = match script.dice.below(8) {
+            0 => script.dice.pick(&[0, 1, 1_086, 1_087]),
+            1..=3 => script.dice.between(0, 20),
+            _ => script.dice.between(0, i32::from(HIGHEST_CHANNEL)),
+        };
+        if !channels.contains(&channel) {
+            channels.push(channel);
+        }
+    }
+    channels
+}
+
+/// A serving level, a hysteresis, and neighbours whose sums lie at or about the turn.
+fn plan(script: &mut Script) -> Plan {
+    let channels = eight_channels(script);
+    let count = script.dice.pick(&[1, 2, 2, 3, 3, 4, 6, 6]);
+    let hysteresis = script.dice.pick(&[0, 0, 1, 2, 3, 299, 300, 301, 1_000, 3_000, 5_999, 6_000]);
+    let base = match script.dice.below(5) {
+        0 => *LEVEL_RANGE.start(),
+        1 => -hysteresis - 2,
+        _ => script.dice.between(-14_600, -hysteresis - 400),
+    };
+    let mut queues = vec![(channels[0], with_older(script, base, 0))];
+    let shared = script.dice.pick(&[0, 1, 1, 1, 2, 15]);
+    for channel in &channels[1..=count] {
+        // Half of the neighbours share one sum, so that the channel number has to decide.
+        let other = script.dice.pick(&[-15, -1, 0, 0, 1, 1, 2, 15, 16]);
+        let beyond = if script.dice.one_in(2) { shared } else { other };
+        queues.push((*channel, with_older(script, base + hysteresis, beyond)));
+    }
+    Plan { hysteresis, list: channels[1..=count].to_vec(), strange: channels[7], queues }
+}
+
+/// The planned levels, at times one short, and before them some that must fall out again.
+fn with_older(script: &mut Script, each: i32, beyond: i32) -> Vec<i32> {
+    let mut levels = spread(script, each, beyond);
+    if script.dice.one_in(12) {
+        levels.pop();
+    } else {
+        for _ in 0..script.dice.pick(&[0, 0, 0, 1, 2, 5]) {
+            let level = script.dice.within(&LEVEL_RANGE);
+            levels.push(level);
+        }
+    }
+    levels
+}
+
+/// Planned levels with the sum PLANNED x each + beyond, unlike each other.
+fn spread(script: &mut Script, each: i32, beyond: i32) -> Vec<i32> {
+    let mut levels: Vec<i32> = (0..PLANNED)
+        .map(|place| each + beyond.div_euclid(PLANNED) + i32::from(place < beyond.rem_euclid(PLANNED)))
+        .collect();
+    for _ in 0..script.dice.pick(&[0, 5, 20]) {
+        let (one, other) = (script.dice.below(levels.len()), script.dice.below(levels.len()));
+        let amount = script.dice.between(1, 150);
+        if one != other
+            && LEVEL_RANGE.contains(&(levels[one] + amount))
+            && LEVEL_RANGE.contains(&(levels[other] - amount))
+        {
+            levels[one] += amount;
+            levels[other] -= amount;
+        }
+    }
+    script.dice.shuffle(&mut levels);
+    levels
+}
+
+/// A new list.
+fn say_list(script: &mut Script, list: &[i32]) -> String {
+    let words: Vec<String> = list.iter().map(|channel| format!(" {channel}")).collect();
+    script.say(&format!("list{}", words.concat()))
+}
+
+/// The neighbours as the session has them now.
+fn neighbours(script: &Script) -> Vec<i32> {
+    script.session.watch.neighbours().iter().map(|channel| i32::from(*channel)).collect()
+}
+
+/// The serving channel as the session has it now; 0 for an idle watch.
+fn serving(script: &Script) -> i32 {
+    script.session.watch.serving().map_or(0, i32::from)
+}
+
+/// The same channels in another order.
+fn reordered(script: &mut Script) {
+    let mut list = neighbours(script);
+    script.dice.shuffle(&mut list);
+    say_list(script, &list);
+}
+
+/// A list that is refused: a repeat, the serving channel, one above 1,087, over six, or several of these.
+fn refused_list(script: &mut Script) {
+    let mut list = neighbours(script);
+    for _ in 0..script.dice.pick(&[1, 1, 1, 2]) {
+        match script.dice.below(4) {
+            0 => list.push(list.first().copied().unwrap_or(5)),
+            1 => list.push(serving(script)),
+            2 => list.push(script.dice.pick(&[1_088, 1_089, 4_000, 65_535])),
+            _ => {
+                let size = script.dice.pick(&[7, 8]);
+                list = eight_channels(script)[..size].to_vec();
+            }
+        }
+    }
+    list.truncate(8);
+    script.dice.shuffle(&mut list);
+    say_list(script, &list);
+}
+
+/// A turn that keeps every level: another order, refusals, missed bursts, questions.
+fn harmless_turn(script: &mut Script, plan: &Plan) {
+    match script.dice.below(13) {
+        0..=3 => reordered(script),
+        4 | 5 => refused_list(script),
+        6 => refused_move(script, plan.strange),
+        7 => file_wrongly(script, plan.strange),
+        8 => {
+            let channel = script.dice.pick(&[serving(script), plan.list[0]]);
+            script.say(&format!("file {channel} missed"));
+        }
+        9 => ask_all(script, plan.strange),
+        10 => move_there_and_back(script),
+        _ => {
+            let near = script.dice.between(-1, 1);
+            say_verdict(script, plan.hysteresis + near);
+        }
+    }
+}
+
+/// A move to a channel that is not in the list.
+fn refused_move(script: &mut Script, strange: i32) {
+    let channel = script.dice.pick(&[serving(script), strange, 1_088, 65_535]);
+    script.say(&format!("move {channel}"));
+}
+
+/// Anything under a channel that is not watched, then a bad float under the serving one.
+fn file_wrongly(script: &mut Script, strange: i32) {
+    let channel = script.dice.pick(&[strange, strange, 1_088, 65_535]);
+    let burst = script.dice.pick(&["missed", "heard nan nan", "heard 0xc3160001 0", "heard -90 5"]);
+    script.say(&format!("file {channel} {burst}"));
+    let watched = serving(script);
+    let bad = ["heard nan 0", "heard -90 nan", "heard 0xc3160001 0", "heard -90 0x42200001", "heard 0x00000001 0"];
+    let burst = script.dice.pick(&bad);
+    script.say(&format!("file {watched} {burst}"));
+}
+
+/// A move to a neighbour and back to the channel that served before.
+fn move_there_and_back(script: &mut Script) {
+    let list = neighbours(script);
+    if !list.is_empty() {
+        let (there, back) = (script.dice.pick(&list), serving(script));
+        script.say(&format!("move {there}"));
+        if script.dice.one_in(2) {
+            reordered(script);
+        }
+        script.say(&format!("move {back}"));
+    }
+}
+
+/// Asks about every watched channel and a strange one.
+fn ask_all(script: &mut Script, strange: i32) {
+    let mut channels = neighbours(script);
+    channels.extend([serving(script), strange]);
+    script.dice.shuffle(&mut channels);
+    for channel in channels {
+        let word = whole_word(&mut script.dice, channel);
+        script.say(&format!("ask {word}"));
+    }
+}
+
+/// A verdict at this hysteresis.
+fn say_verdict(script: &mut Script, hysteresis: i32) -> String {
+    let word = whole_word(&mut script.dice, hysteresis);
+    script.say(&format!("verdict {word}"))
+}
+
+/// With all levels filed: verdicts around the turn, then lists, moves and starts, each with verdicts after it.
+fn finale(script: &mut Script, plan: &Plan) {
+    ask_all(script, plan.strange);
+    verdicts(script, plan);
+    for _ in 0..script.dice.between(2, 6) {
+        match script.dice.below(9) {
+            0 | 1 => reordered(script),
+            2 => drop_and_take_back(script),
+            3 => refused_list(script),
+            4 => refused_move(script, plan.strange),
+            5 => move_there_and_back(script),
+            6 => one_more_level(script),
+            7 => strange_in_its_place(script, plan.strange),
+            _ => follow_verdict(script, plan.hysteresis),
+        }
+        let near = script.dice.between(-1, 1);
+        say_verdict(script, plan.hysteresis + near);
+    }
+    verdicts(script, plan);
+    ask_all(script, plan.strange);
+    if script.dice.one_in(2) {
+        start_again(script, plan.strange);
+    }
+}
+
+/// A start on the serving channel, a neighbour, a stranger or refused; then what is left of the watch before it.
+fn start_again(script: &mut Script, strange: i32) {
+    let (before, serving) = (neighbours(script), serving(script));
+    let neighbour = before.first().copied().unwrap_or(strange);
+    let again = script.dice.pick(&[serving, serving, neighbour, strange, 1_088]);
+    script.say(&format!("start {again}"));
+    say_verdict(script, 0);
+    for channel in before {
+        script.say(&format!("ask {channel}"));
+    }
+    script.say(&format!("ask {serving}"));
+    script.say(&format!("move {neighbour}"));
+}
+
+/// Verdicts at and beside the turn, at 0 and at or outside an end of the range.
+fn verdicts(script: &mut Script, plan: &Plan) {
+    let h = plan.hysteresis;
+    let mut all = vec![h - 1, h, h + 1, 0];
+    all.push(script.dice.pick(&[-1, 6_000, 6_001, i32::MIN, i32::MAX]));
+    for hysteresis in all {
+        say_verdict(script, hysteresis);
+    }
+}
+
+/// Drops one neighbour and takes it back later, when it has no levels any more.
+fn drop_and_take_back(script: &mut Script) {
+    let list = neighbours(script);
+    if let Some((first, others)) = list.split_first() {
+        say_list(script, others);
+        script.say(&format!("ask {first}"));
+        say_list(script, &list);
+        script.say(&format!("ask {first}"));
+    }
+}
+
+/// Puts a strange channel where a neighbour stood; it has no levels.
+fn strange_in_its_place(script: &mut Script, strange: i32) {
+    let mut list = neighbours(script);
+    if !list.is_empty() && !list.contains(&strange) {
+        let place = script.dice.below(list.len());
+        list[place] = strange;
+        say_list(script, &list);
+        script.say(&format!("ask {strange}"));
+    }
+}
+
+/// One more level under any watched channel, so that its oldest goes.
+fn one_more_level(script: &mut Script) {
+    let mut channels = neighbours(script);
+    channels.push(serving(script));
+    let (channel, level) = (script.dice.pick(&channels), script.dice.within(&LEVEL_RANGE));
+    let burst = script.heard(level);
+    script.say(&format!("file {channel} {burst}"));
+}
+
+/// Does what the verdict says, as a terminal would.
+fn follow_verdict(script: &mut Script, hysteresis: i32) {
+    let answer = say_verdict(script, hysteresis.max(1) - 1);
+    if answer.starts_with("move ") {
+        script.say(&answer);
+        script.say(&answer);
+    }
+}
+
+/// Calls in any order over few channels and few levels, so that sums are often equal.
+pub fn loose_watch(script: &mut Script) {
+    let mut channels = eight_channels(script);
+    channels.truncate(script.dice.between(3, 8) as usize);
+    let levels = [-9_000, -9_000, -9_001, -8_999, -1, -2, 0, -15_000];
+    for _ in 0..script.dice.between(30, 120) {
+        let channel = script.dice.pick(&channels);
+        match script.dice.below(40) {
+            0 => drop(script.say(&format!("start {channel}"))),
+            1..=3 => loose_list(script, &channels),
+            4 | 5 => drop(script.say(&format!("move {channel}"))),
+            6..=8 => drop(script.say(&format!("ask {channel}"))),
+            9..=11 => {
+                let hysteresis = script.dice.pick(&[0, 0, 1, 2, 100, 6_000, -1, 6_001]);
+                say_verdict(script, hysteresis);
+            }
+            12 => {
+                let burst = script.doubtful();
+                script.say(&format!("file {channel} {burst}"));
+            }
+            13 => drop(script.say(&format!("file {channel} missed"))),
+            _ => {
+                let level = script.dice.pick(&levels);
+                let burst = script.heard(level);
+                script.say(&format!("file {channel} {burst}"));
+            }
+        }
+    }
+}
+
+/// A list of any of the channels, in any order, with repeats at times.
+fn loose_list(script: &mut Script, channels: &[i32]) {
+    let mut list = channels.to_vec();
+    script.dice.shuffle(&mut list);
+    list.retain(|channel| *channel != serving(script));
+    list.truncate(script.dice.below(MOST_NEIGHBOURS + 1));
+    if script.dice.one_in(6) {
+        list.push(script.dice.pick(channels));
+    }
+    say_list(script, &list);
+}
+
+/// Questions to an idle watch, which only the beginning of a session has.
+pub fn idle_watch(script: &mut Script) {
+    let mut lines = vec![
+        "ask 0", "ask 5", "ask 1088", "move 0", "move 7", "file 0 heard -90 5", "file 0 missed",
+        "file 3 heard nan nan", "list", "list 0", "list 1 2 3", "list 0 0", "list 1 2 3 4 5 6", "list 1 2 3 4 5 6 7",
+        "list 1 2 3 4 5 6 7 8", "list 1088", "list 1087", "verdict 0", "verdict 6000", "verdict 6001", "verdict -1",
+        "start 1088", "start 65535", "list 5 65535 5", "step failed 0", "step 10 20 0", "step 64 0 0",
+        "step failed 4001", "choose 0", "sweep next", "sweep counts", "choose 6001",
+    ];
+    script.dice.shuffle(&mut lines);
+    for line in lines {
+        script.say(line);
+    }
+}

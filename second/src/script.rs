@@ -1,0 +1,97 @@
+//! The lines of a scene as they are made, with a session of our own beside them to aim by.
+
+use crate::answer::Session;
+use crate::dice::Dice;
+use crate::limits::QUALITY_RANGE;
+use crate::parse::call;
+use crate::scene_faulty::faulty_line;
+use crate::words::{any_float, hundredths_word};
+
+/// The dice, the lines made so far, and the session that these lines lead to.
+pub struct Script {
+    pub dice: Dice,
+    pub session: Session,
+    lines: Vec<Vec<u8>>,
+}
+
+impl Script {
+    /// An empty script from a seed.
+    pub fn seeded(seed: u64) -> Script {
+        Script { dice: Dice::seeded(seed), session: Session::fresh(), lines: Vec::new() }
+    }
+
+    /// Adds a line, now and then with an aside before it, and gives its answer, empty for a comment.
+    pub fn say(&mut self, line: &str) -> String {
+        if self.dice.one_in(14) {
+            self.aside();
+        }
+        self.add(line.as_bytes().to_vec())
+    }
+
+    /// Adds a line of any bytes and gives its answer.
+    pub fn add(&mut self, line: Vec<u8>) -> String {
+        let answer = self.session.answer_line(0, &line).unwrap_or_default();
+        self.lines.push(line);
+        answer
+    }
+
+    /// The lines made since the last time.
+    pub fn take_lines(&mut self) -> Vec<Vec<u8>> {
+        std::mem::take(&mut self.lines)
+    }
+
+    /// A line that leaves every record as it is: a comment, a faulty line, a question or a refusal.
+    fn aside(&mut self) {
+        let line = match self.dice.below(10) {
+            0 => b"".to_vec(),
+            1 => self.comment(),
+            2..=4 => self.surely_faulty(),
+            5 => format!("level {}", any_float(&mut self.dice)).into_bytes(),
+            6 => format!("quality {}", any_float(&mut self.dice)).into_bytes(),
+            7 => format!("start {}", self.dice.pick(&[1_088, 1_089, 2_000, 65_535])).into_bytes(),
+            8 => b"sweep next".to_vec(),
+            _ => b"sweep counts".to_vec(),
+        };
+        self.add(line);
+    }
+
+    /// A comment of any length, at times with odd bytes.
+    pub fn comment(&mut self) -> Vec<u8> {
+        let length = self.dice.pick(&[0, 1, 20, 198, 199, 200, 201, 1_000]);
+        let mut line = vec![b'#'];
+        for _ in 0..length {
+            let odd = self.dice.pick(&[0, b'\r', b'\t', 0xff, 0x80]);
+            line.push(if self.dice.one_in(9) { odd } else { b'a' + self.dice.below(26) as u8 });
+        }
+        line
+    }
+
+    /// A line that is none of the calls.
+    pub fn surely_faulty(&mut self) -> Vec<u8> {
+        for _ in 0..20 {
+            let line = faulty_line(&mut self.dice);
+            if call(&line).is_none() {
+                return line;
+            }
+        }
+        b"unknown".to_vec()
+    }
+
+    /// A heard burst with this level; the quality is any in range.
+    pub fn heard(&mut self, level: i32) -> String {
+        let quality = self.dice.within(&QUALITY_RANGE);
+        let (level, quality) = (hundredths_word(&mut self.dice, level), hundredths_word(&mut self.dice, quality));
+        format!("heard {level} {quality}")
+    }
+
+    /// A heard burst of which at least one float is likely out of range.
+    pub fn doubtful(&mut self) -> String {
+        let (good, any) = (self.dice.between(-3_000, 0), any_float(&mut self.dice));
+        let good = hundredths_word(&mut self.dice, good);
+        match self.dice.below(3) {
+            0 => format!("heard {any} {good}"),
+            1 => format!("heard {good} {any}"),
+            _ => format!("heard {any} {}", any_float(&mut self.dice)),
+        }
+    }
+}

@@ -1,0 +1,351 @@
+//! The plain watch of document 01: a serving channel or none, a set of neighbours and, for each channel
+//! under watch, the levels filed since it came under watch, oldest first. Places in a list do not exist here.
+
+use crate::limits::{DEPTH, HIGHEST_CHANNEL, HYSTERESIS_RANGE, MOST_NEIGHBOURS};
+use crate::reading::{heard_level, Burst};
+use crate::refusal::{judge, Refusal};
+use std::collections::{BTreeMap, BTreeSet};
+
+/// No answer looks behind the last DEPTH levels; so that memory stays bounded in a session of any length,
+/// the older half goes when a channel holds this many.
+const LEVELS_HELD: usize = 1_000_000;
+
+/// The plain watch; a fresh one is idle.
+#[derive(Clone, Debug, Default, PartialEq, Eq)]
+pub struct Watch {
+    serving: Option<u16>,
+    neighbours: BTreeSet<u16>,
+    levels: BTreeMap<u16, Vec<i32>>,
+}
+
+/// What a verdict says.
+#[derive(Clone, Copy, Debug, PartialEq, Eq)]
+pub enum Verdict {
+    Wait,
+    Stay,
+    Move(u16),
+}
+
+/// The last DEPTH levels, or all if fewer.
+fn last_levels(levels: &[i32]) -> &[i32] {
+    &levels[levels.len().saturating_sub(DEPTH)..]
+}
+
+/// The sum of the last levels if there are DEPTH of them.
+fn full_sum(levels: &[i32]) -> Option<i64> {
+    let last = last_levels(levels);
+    (last.len() == DEPTH).then(|| last.iter().copied().map(i64::from).sum())
+}
+
+impl Watch {
+    /// The serving channel, if the watch is not idle.
+    pub fn serving(&self) -> Option<u16> {
+        self.serving
+    }
+
+    /// The neighbours.
+    pub fn neighbours(&self) -> &BTreeSet<u16> {
+        &self.neighbours
+    }
+
+    /// Rule "start": that channel alone, without levels.
+    pub fn start(&mut self, serving: u16) -> Result<(), Refusal> {
+        judge(&[(Refusal::Channel, serving > HIGHEST_CHANNEL)])?;
+        *self = Watch {
+            serving: Some(serving),
+            neighbours: BTreeSet::new(),
+            levels: BTreeMap::from([(serving, Vec::new())]),
+        };
+        Ok(())
+    }
+
+    /// Refusal 5: over 6 channels, one above 1,087, a repeat, or the serving channel.
+    fn list_is_faulty(&self, list: &[u16]) -> bool {
+        let different: BTreeSet<u16> = list.iter().copied().collect();
+        list.len() > MOST_NEIGHBOURS
+            || list.iter().any(|channel| *channel > HIGHEST_CHANNEL)
+            || different.len() < list.len()
+            || list.iter().any(|channel| self.serving == Some(*channel))
+    }
+
+    /// Rule "new list": kept channels keep their levels, dropped ones lose them, new ones have none.
+    pub fn new_list(&mut self, list: &[u16]) -> Result<(), Refusal> {
+        judge(&[(Refusal::List, self.list_is_faulty(list)), (Refusal::NotWatched, self.serving.is_none())])?;
+        self.neighbours = list.iter().copied().collect();
+        let mut under_watch = self.neighbours.clone();
+        under_watch.extend(self.serving);
+        self.levels.retain(|channel, _| under_watch.contains(channel));
+        for channel in under_watch {
+            self.levels.entry(channel).or_default();
+        }
+        Ok(())
+    }
+
+    /// Rule "move": the neighbour and the serving channel change roles; all levels stay.
+    pub fn move_to(&mut self, neighbour: u16) -> Result<(), Refusal> {
+        judge(&[(Refusal::NotWatched, !self.neighbours.contains(&neighbour))])?;
+        self.neighbours.remove(&neighbour);
+        self.neighbours.extend(self.serving);
+        self.serving = Some(neighbour);
+        Ok(())
+    }
+
+    /// Rule "file": a heard level goes to the end of the channel's levels; a missed burst changes nothing.
+    pub fn file(&mut self, channel: u16, burst: Burst) -> Result<(), Refusal> {
+        let level = heard_level(burst);
+        judge(&[(Refusal::NotWatched, !self.levels.contains_key(&channel)), (Refusal::Reading, level.is_err())])?;
+        if let Some(level) = level? {
+            let levels = self.levels.entry(channel).or_default();
+            levels.push(level);
+            if levels.len() == LEVELS_HELD {
+                levels.drain(..LEVELS_HELD / 2);
+            }
+        }
+        Ok(())
+    }
+
+    /// Rule "ask": count and mean over the last levels, the mean rounded down, 0 for a count of 0.
+    pub fn ask(&self, channel: u16) -> Result<(usize, i64), Refusal> {
+        judge(&[(Refusal::NotWatched, !self.levels.contains_key(&channel))])?;
+        let last = last_levels(&self.levels[&channel]);
+        let sum: i64 = last.iter().copied().map(i64::from).sum();
+        let mean = if last.is_empty() { 0 } else { sum.div_euclid(last.len() as i64) };
+        Ok((last.len(), mean))
+    }
+
+    /// Rule "verdict": wait, stay, or move to the neighbour that counts with the greatest sum,
+    /// the lowest channel number among equals.
+    pub fn verdict(&self, hysteresis: i32) -> Result<Verdict, Refusal> {
+        judge(&[
+            (Refusal::Parameter, !HYSTERESIS_RANGE.contains(&hysteresis)),
+            (Refusal::NotWatched, self.serving.is_none()),
+        ])?;
+        let serving_levels = self.serving.and_then(|serving| self.levels.get(&serving));
+        let Some(serving_sum) = serving_levels.and_then(|levels| full_sum(levels)) else {
+            return Ok(Verdict::Wait);
+        };
+        let mut best: Option<(i64, u16)> = None;
+        // By rising channel number, so among equal sums the lowest channel was there first.
+        for channel in &self.neighbours {
+            let Some(sum) = full_sum(&self.levels[channel]) else { continue };
+            let counts = sum - serving_sum > DEPTH as i64 * i64::from(hysteresis);
+            if counts && best.is_none_or(|(greatest, _)| sum > greatest) {
+                best = Some((sum, *channel));
+            }
+        }
+        Ok(best.map_or(Verdict::Stay, |(_, channel)| Verdict::Move(channel)))
+    }
+}
+
+#[cfg(test)]
+mod tests {
+    use super::*;
+    use crate::reading::shown_level;
+
+    const BAD: Burst = Burst::Heard { level: 0, quality: 0x7f80_0000 };
+
+    fn heard(level: i32) -> Burst {
+        Burst::Heard { level: shown_level(level).unwrap(), quality: 0 }
+    }
+
+    fn fill(watch: &mut Watch, channel: u16, times: usize, level: i32) {
+        for _ in 0..times {
+            watch.file(channel, heard(level)).unwrap();
+        }
+    }
+
+    fn watching(serving: u16, list: &[u16]) -> Watch {
+        let mut watch = Watch::default();
+        watch.start(serving).unwrap();
+        watch.new_list(list).unwrap();
+        watch
+    }
+
+    #[test]
+    fn checked_example_of_the_mean() {
+        let mut watch = watching(5, &[]);
+        watch.file(5, heard(-1)).unwrap();
+        watch.file(5, heard(-2)).unwrap();
+        assert_eq!(watch.ask(5), Ok((2, -2)));
+    }
+
+    #[test]
+    fn checked_examples_of_the_verdict() {
+        let mut watch = watching(10, &[20]);
+        fill(&mut watch, 20, 15, -9_700);
+        fill(&mut watch, 10, 14, -10_000);
+        assert_eq!(watch.verdict(299), Ok(Verdict::Wait));
+        fill(&mut watch, 10, 1, -10_000);
+        assert_eq!(watch.verdict(300), Ok(Verdict::Stay));
+        assert_eq!(watch.verdict(299), Ok(Verdict::Move(20)));
+    }
+
+    #[test]
+    fn more_than_15_times_the_hysteresis_is_strict_to_the_hundredth() {
+        let mut watch = watching(10, &[20]);
+        fill(&mut watch, 10, 15, -10_000);
+        fill(&mut watch, 20, 15, -9_700);
+        fill(&mut watch, 20, 1, -9_699);
+        assert_eq!(watch.verdict(300), Ok(Verdict::Move(20)));
+        assert_eq!(watch.verdict(301), Ok(Verdict::Stay));
+        fill(&mut watch, 20, 15, -9_700);
+        assert_eq!(watch.verdict(300), Ok(Verdict::Stay));
+    }
+
+    #[test]
+    fn a_neighbour_with_14_levels_does_not_count() {
+        let mut watch = watching(10, &[20]);
+        fill(&mut watch, 10, 15, -10_000);
+        fill(&mut watch, 20, 14, -1);
+        assert_eq!(watch.verdict(0), Ok(Verdict::Stay));
+        fill(&mut watch, 20, 1, -1);
+        assert_eq!(watch.verdict(0), Ok(Verdict::Move(20)));
+    }
+
+    #[test]
+    fn equal_sums_go_to_the_lowest_channel_whatever_its_place() {
+        for list in [[7, 3, 900], [900, 7, 3], [3, 900, 7]] {
+            let mut watch = watching(10, &list);
+            for channel in [10, 7, 3, 900] {
+                fill(&mut watch, channel, 15, if channel == 10 { -5_000 } else { -4_000 });
+            }
+            assert_eq!(watch.verdict(0), Ok(Verdict::Move(3)));
+            fill(&mut watch, 900, 1, -3_999);
+            assert_eq!(watch.verdict(0), Ok(Verdict::Move(900)));
+        }
+    }
+
+    #[test]
+    fn levels_follow_the_channel_through_a_reordered_list() {
+        let mut watch = watching(1, &[2, 3, 4]);
+        fill(&mut watch, 2, 1, -200);
+        fill(&mut watch, 3, 2, -300);
+        watch.new_list(&[4, 3, 2]).unwrap();
+        assert_eq!(watch.ask(2), Ok((1, -200)));
+        assert_eq!(watch.ask(3), Ok((2, -300)));
+        assert_eq!(watch.ask(4), Ok((0, 0)));
+    }
+
+    #[test]
+    fn a_dropped_channel_comes_back_without_levels() {
+        let mut watch = watching(1, &[2, 3]);
+        fill(&mut watch, 2, 3, -200);
+        watch.new_list(&[3]).unwrap();
+        assert_eq!(watch.ask(2), Err(Refusal::NotWatched));
+        watch.new_list(&[3, 2]).unwrap();
+        assert_eq!(watch.ask(2), Ok((0, 0)));
+    }
+
+    #[test]
+    fn a_move_changes_roles_and_keeps_levels() {
+        let mut watch = watching(1, &[2, 3]);
+        fill(&mut watch, 1, 4, -100);
+        fill(&mut watch, 2, 2, -200);
+        assert_eq!(watch.move_to(2), Ok(()));
+        assert_eq!(watch.serving(), Some(2));
+        assert_eq!(watch.neighbours(), &BTreeSet::from([1, 3]));
+        assert_eq!((watch.ask(1), watch.ask(2)), (Ok((4, -100)), Ok((2, -200))));
+        assert_eq!(watch.move_to(2), Err(Refusal::NotWatched));
+        assert_eq!(watch.move_to(9), Err(Refusal::NotWatched));
+        assert_eq!(watch.new_list(&[2]), Err(Refusal::List));
+        assert_eq!(watch.new_list(&[1]), Ok(()));
+    }
+
+    #[test]
+    fn an_accepted_start_forgets_all_and_a_refused_one_nothing() {
+        let mut watch = watching(1, &[2]);
+        fill(&mut watch, 1, 15, -100);
+        let before = watch.clone();
+        assert_eq!(watch.start(1_088), Err(Refusal::Channel));
+        assert_eq!(watch, before);
+        assert_eq!(watch.start(1), Ok(()));
+        assert_eq!(watch.ask(1), Ok((0, 0)));
+        assert_eq!(watch.ask(2), Err(Refusal::NotWatched));
+        assert_eq!(watch.start(1_087), Ok(()));
+        assert_eq!(watch.start(0), Ok(()));
+    }
+
+    #[test]
+    fn faulty_lists_are_refused() {
+        let mut watch = watching(10, &[1, 2]);
+        let before = watch.clone();
+        assert_eq!(watch.new_list(&[1, 2, 3, 4, 5, 6, 7]), Err(Refusal::List));
+        assert_eq!(watch.new_list(&[1, 2, 1]), Err(Refusal::List));
+        assert_eq!(watch.new_list(&[1_088]), Err(Refusal::List));
+        assert_eq!(watch.new_list(&[1, 10]), Err(Refusal::List));
+        assert_eq!(watch, before);
+        assert_eq!(watch.new_list(&[1, 2, 3, 4, 5, 1_087]), Ok(()));
+        assert_eq!(watch.new_list(&[]), Ok(()));
+        assert!(watch.neighbours().is_empty());
+    }
+
+    #[test]
+    fn an_idle_watch_refuses_as_the_papers_say() {
+        let mut watch = Watch::default();
+        assert_eq!(watch.new_list(&[1, 1]), Err(Refusal::List));
+        for list in [&[][..], &[0], &[1, 2]] {
+            assert_eq!(watch.new_list(list), Err(Refusal::NotWatched));
+        }
+        assert_eq!(watch.verdict(-1), Err(Refusal::Parameter));
+        assert_eq!(watch.verdict(6_001), Err(Refusal::Parameter));
+        assert_eq!(watch.verdict(0), Err(Refusal::NotWatched));
+        assert_eq!(watch.ask(0), Err(Refusal::NotWatched));
+        assert_eq!(watch.move_to(0), Err(Refusal::NotWatched));
+        assert_eq!(watch.file(0, heard(-1)), Err(Refusal::NotWatched));
+        assert_eq!(watch.start(2_000), Err(Refusal::Channel));
+        assert_eq!(watch, Watch::default());
+    }
+
+    #[test]
+    fn channel_0_is_watched_only_if_named() {
+        let mut watch = watching(5, &[]);
+        assert_eq!(watch.ask(0), Err(Refusal::NotWatched));
+        assert_eq!(watch.move_to(0), Err(Refusal::NotWatched));
+        watch.new_list(&[0]).unwrap();
+        assert_eq!(watch.file(0, heard(-7)), Ok(()));
+        assert_eq!(watch.ask(0), Ok((1, -7)));
+    }
+
+    #[test]
+    fn a_bad_float_is_told_last_and_a_missed_burst_changes_nothing() {
+        let mut watch = watching(5, &[6]);
+        let before = watch.clone();
+        assert_eq!(watch.file(7, BAD), Err(Refusal::NotWatched));
+        assert_eq!(watch.file(65_535, BAD), Err(Refusal::NotWatched));
+        assert_eq!(watch.file(6, BAD), Err(Refusal::Reading));
+        assert_eq!(watch.file(6, Burst::Missed), Ok(()));
+        assert_eq!(watch.file(7, Burst::Missed), Err(Refusal::NotWatched));
+        assert_eq!(watch, before);
+    }
+
+    #[test]
+    fn beyond_15_levels_the_oldest_goes() {
+        let mut watch = watching(5, &[]);
+        for n in 0..20 {
+            watch.file(5, heard(-n)).unwrap();
+        }
+        assert_eq!(watch.ask(5), Ok((15, -12)));
+        assert_eq!(watch.levels[&5].len(), 20);
+    }
+
+    #[test]
+    fn the_bound_on_levels_held_is_not_seen_in_answers() {
+        let mut watch = watching(5, &[]);
+        watch.levels.insert(5, vec![-1; LEVELS_HELD - 1]);
+        fill(&mut watch, 5, 1, -16);
+        assert_eq!(watch.levels[&5].len(), LEVELS_HELD / 2);
+        assert_eq!(watch.ask(5), Ok((15, -2)));
+    }
+
+    #[test]
+    fn hysteresis_is_taken_to_its_ends() {
+        let mut watch = watching(5, &[6]);
+        fill(&mut watch, 5, 15, -15_000);
+        fill(&mut watch, 6, 15, -8_999);
+        assert_eq!(watch.verdict(6_000), Ok(Verdict::Move(6)));
+        fill(&mut watch, 6, 15, -9_000);
+        assert_eq!(watch.verdict(6_000), Ok(Verdict::Stay));
+        assert_eq!(watch.verdict(6_001), Err(Refusal::Parameter));
+        assert_eq!(watch.verdict(-1), Err(Refusal::Parameter));
+    }
+}
