@@ -1,8 +1,8 @@
 -- An i32 as a size with a sign: the machine's way from it to its size, and the text of either sign.
-use Prim.Native.Nat.{ℕ, zero, suc, _^_, _≤_, _<_}
-use mathlib.Core.Path.{_≡_, refl, sym, ap, subst, subst⁻¹, _∙_}
+use Prim.Native.Nat.{zero, suc, _<_}
+use mathlib.Core.Path.{_≡_, refl, ap, subst, subst⁻¹, _∙_}
 use mathlib.Core.Bool.{Bool, true, false}
-use mathlib.Core.List.{List, _∷_}
+use mathlib.Core.List.{_∷_}
 use native.Mathlib.Omega.{arith}
 use lib.Dec.{T}
 use lib.IntN.{ℤ, pos, negsuc, negℤ, natAbs, _-ℤ_, +ℤ-idl}
@@ -11,7 +11,7 @@ use mir.Syntax.{w32, w64}
 use mir.Val.{Fits, SFits, toZ, ofZ}
 use mir.ValLaws.{toZ-ofZ}
 use borrow.Author.Tests.{ltb-true}
-use Rattle.session_file.specs.Numbers.{minus}
+use Rattle.session_words.specs.Bytes.{minus}
 use Rattle.session_file.specs.Text.{decimalText, signedText}
 
 module _ (z : ℤ) (f : SFits w32 z) where

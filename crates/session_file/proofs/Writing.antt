@@ -2,20 +2,19 @@
 use Prim.Native.Nat.{ℕ, zero, suc, _+_, _-_, _*_, _/_, _%_, _^_, _≤_, _<_, min}
 use mathlib.Core.Path.{_≡_, refl, sym, ap, subst, _∙_}
 use mathlib.Core.Logic.{_⊎_, inl, inr}
-use mathlib.Core.Bool.{Bool, true, false, cond, not, _&&_, _||_, Bool·beq}
-use mathlib.Core.List.{List, [], _∷_, _++_, append-assoc, append-nil}
+use mathlib.Core.Bool.{Bool, true, false, not, _&&_, Bool·beq}
+use mathlib.Core.List.{List, [], _∷_, _++_}
 use native.Mathlib.Nat.{pow-suc, pow-le-pow-right, div-lt-iff-lt-mul, le-trans, lt-of-not-le, le-of-suc-le-suc}
 use native.Mathlib.Decide.{decLe, decLt}
 use native.Mathlib.Omega.{arith}
-use lib.ListN.{length, take, drop, length-take, length-append}
-use lib.Seq.{paste, take-paste, length-paste, take-all, take-take}
-use lib.Dec.{T, leb, ltb, eqb, lit<}
-use lib.IntN.{ℤ, pos, negsuc}
+use lib.ListN.{length, take, length-take}
+use lib.Seq.{paste, take-paste, length-paste, take-all}
+use lib.Dec.{T, leb, lit<}
 use lib.Ieee.{Float, nan, inf, fin, isNan, eq, up, down}
-use borrow.Author.Tests.{lt-ltb, le-ltb, eq-eqb, leb-true, leb-false}
+use borrow.Author.Tests.{lt-ltb, le-ltb, eq-eqb, leb-false}
 use Rattle.io.specs.Digits.{glyph, digits, Fewest}
 use Rattle.session_file.specs.Text.{lastDigits, decimalText}
-use Rattle.session_file.proofs.Lists.{cond-true, cond-false, take-least, take-two, take-again}
+use Rattle.session_words.proofs.Lists.{cond-true, cond-false, take-least, take-two}
 
 -- ---- room
 

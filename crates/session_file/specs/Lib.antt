@@ -1,8 +1,3 @@
--- Session files (docs/session-format.md). Start with `Lines`, `Words` and `Numbers`; `Code` is what the private functions return.
-pub mod Bytes
+-- Session files (docs/session-format.md): their lines, and the text of an answer.
 pub mod Lines
-pub mod Words
-pub mod Numbers
 pub mod Text
-pub mod Told
-pub mod Code

@@ -4,7 +4,7 @@ ghost use mathlib.Core.List.{[]};
 ghost use Rattle.session_file.specs.Lines.{kept, keptOf, withMore};
 use crate::LONGEST;
 use crate::text::copy_to;
-use crate::text::least;
+use session_words::least;
 
 // The first `length` bytes are the line so far. A greater length than the longest stands for any such: its first bytes alone are kept.
 pub struct Line {

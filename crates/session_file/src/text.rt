@@ -1,12 +1,13 @@
 // An answer as text: words, whole numbers and a float's bits, one after the other.
 ghost use mathlib.Core.Path.{_≡_};
 ghost use mathlib.Core.List.{[], _++_};
-ghost use Prim.Native.Nat.{_+_, _≤_, min};
+ghost use Prim.Native.Nat.{_+_, _≤_};
 ghost use lib.ListN.{length, take};
 ghost use lib.Seq.{paste};
 ghost use lib.Ieee.{binary32, toBits};
 ghost use Rattle.session_file.specs.Text.{room, said, fitting, decimalText, signedText, bitsText};
 use crate::ROOM;
+use session_words::least;
 
 const NAN_BITS: u32 = 0x7fc0_0000;
 
@@ -14,12 +15,6 @@ const NAN_BITS: u32 = 0x7fc0_0000;
 pub struct Text {
     pub bytes: [u8; ROOM],
     pub length: usize,
-}
-
-pub fn least(a: usize, b: usize) -> usize
-    ensures { λ r. ⌜ r ≡ min a b ⌝ }
-{
-    if a < b { a } else { b }
 }
 
 // Copies the first n bytes of a slice into another from a place on.

@@ -1,23 +1,20 @@
 -- `session_file::lines::with_more` meets its contract: as for a text, with a length that tells whether all of the line was kept.
-use Prim.Native.Nat.{ℕ, suc, _+_, _-_, _≤_, min}
+use Prim.Native.Nat.{suc, _+_, _-_, _≤_, min}
 use mathlib.Core.Path.{_≡_, sym, ap, ap₂, _∙_}
-use mathlib.Core.Bool.{Bool, true, false, _&&_}
-use mathlib.Core.List.{List}
+use mathlib.Core.Bool.{true, false, _&&_}
 use native.Mathlib.Nat.{min-eq-left}
 use native.Mathlib.Omega.{arith}
 use lib.ListN.{length, take}
 use lib.Seq.{paste}
 use lib.Dec.{leb}
 use borrow.Author.Tests.{leb-true}
-use Rattle.session_file.specs.Lines.{longest, Kept, kept, withMore}
+use Rattle.session_file.specs.Lines.{longest, withMore}
 use Rattle.session_file.proofs.Writing.{copied, filled, both-true, size-all, size-over, fill-over, Over, over-by}
 use borrow.Author.Needs.{needs}
 use Rattle.session_file.proofs.lines.with_more.Statement.{statement}
 use Rattle.session_file.proofs.lines.with_more.Tie as tie
 use Rattle.session_file.proofs.lines.with_more.Reads as reads
 use Rattle.session_file.proofs.lines.with_more.Lts as lts
-use Rattle.session_file.proofs.text.copy_to.Reads as copy-to-reads
-use Rattle.session_file.proofs.text.least.Reads as least-reads
 
 least-requires : tie.Need-least-requires
 least-requires c κs = search needs

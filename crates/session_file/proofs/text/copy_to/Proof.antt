@@ -1,5 +1,5 @@
 -- `session_file::text::copy_to` meets its contract. The invariant: so far the first `i` bytes are copied.
-use lib.Seq.{paste, paste-zero, paste-suc, length-paste}
+use lib.Seq.{paste, paste-zero, paste-suc}
 use lib.ListN.{length, getD, set, length-set}
 use native.Mathlib.Omega.{arith}
 use native.Mathlib.Nat.{le-antisymm}

@@ -1,7 +1,7 @@
 -- `session_file::text::put` meets its contract: the copy takes what a text says, as far as there is room.
 use Prim.Native.Nat.{_+_, _-_, _≤_, min}
 use mathlib.Core.List.{_++_}
-use mathlib.Core.Path.{_≡_, sym, ap, ap₂, _∙_}
+use mathlib.Core.Path.{_≡_, sym, ap, _∙_}
 use native.Mathlib.Omega.{arith}
 use lib.ListN.{length, take, drop, length-take}
 use lib.Seq.{paste, paste-zero, take-take}
@@ -11,8 +11,6 @@ use Rattle.session_file.proofs.text.put.Statement.{statement}
 use Rattle.session_file.proofs.text.put.Tie as tie
 use Rattle.session_file.proofs.text.put.Reads as reads
 use Rattle.session_file.proofs.text.put.Lts as lts
-use Rattle.session_file.proofs.text.copy_to.Reads as copy-to-reads
-use Rattle.session_file.proofs.text.least.Reads as least-reads
 
 returns : tie.Need-returns
 returns c =

@@ -1,6 +1,6 @@
 -- `session_file::text::with` meets its contract: what was there and what is added, as far as there is room (`Writing`).
 use Prim.Native.Nat.{_+_, _-_, min}
-use mathlib.Core.Path.{_≡_, sym, ap, ap₂, _∙_}
+use mathlib.Core.Path.{_≡_, ap, ap₂, _∙_}
 use native.Mathlib.Omega.{arith}
 use lib.ListN.{length, take}
 use lib.Seq.{paste}
@@ -11,8 +11,6 @@ use Rattle.session_file.proofs.text.with.Statement.{statement}
 use Rattle.session_file.proofs.text.with.Tie as tie
 use Rattle.session_file.proofs.text.with.Reads as reads
 use Rattle.session_file.proofs.text.with.Lts as lts
-use Rattle.session_file.proofs.text.copy_to.Reads as copy-to-reads
-use Rattle.session_file.proofs.text.least.Reads as least-reads
 
 least-requires : tie.Need-least-requires
 least-requires c κs = search needs

@@ -1,6 +1,6 @@
 -- `session_file::text::with_bits` meets its contract: a number of 32 bits takes 8 hex digits.
-use mathlib.Core.Path.{_≡_, sym, ap, ap₂, subst⁻¹, _∙_}
-use mathlib.Core.List.{[], _∷_, _++_, append-assoc}
+use mathlib.Core.Path.{_≡_, ap, ap₂, _∙_}
+use mathlib.Core.List.{_++_}
 use native.Mathlib.Omega.{arith}
 use lib.ListN.{take}
 use lib.Ieee.{binary32, toBits}
@@ -12,9 +12,6 @@ use Rattle.session_file.proofs.text.with_bits.Statement.{statement}
 use Rattle.session_file.proofs.text.with_bits.Tie as tie
 use Rattle.session_file.proofs.text.with_bits.Reads as reads
 use Rattle.session_file.proofs.text.with_bits.Lts as lts
-use Rattle.io.proofs.hex.Reads as hex-reads
-use Rattle.session_file.proofs.text.bits_of.Reads as bits-of-reads
-use Rattle.session_file.proofs.text.with.Reads as with-reads
 
 bits-of-requires : tie.Need-bits-of-requires
 bits-of-requires c κs = search needs

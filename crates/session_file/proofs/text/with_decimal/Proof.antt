@@ -1,7 +1,6 @@
 -- `session_file::text::with_decimal` meets its contract: the fewest digits that hold a number are its decimal digits.
-use mathlib.Core.Path.{_≡_, sym, ap, _∙_}
+use mathlib.Core.Path.{ap, _∙_}
 use mathlib.Core.List.{_++_}
-use native.Mathlib.Omega.{arith}
 use lib.ListN.{take}
 use Rattle.session_file.specs.Text.{room, said}
 use Rattle.session_file.proofs.Writing.{decimal-is}
@@ -10,8 +9,6 @@ use Rattle.session_file.proofs.text.with_decimal.Statement.{statement}
 use Rattle.session_file.proofs.text.with_decimal.Tie as tie
 use Rattle.session_file.proofs.text.with_decimal.Reads as reads
 use Rattle.session_file.proofs.text.with_decimal.Lts as lts
-use Rattle.io.proofs.decimal.Reads as decimal-reads
-use Rattle.session_file.proofs.text.with.Reads as with-reads
 
 decimal-requires : tie.Need-decimal-requires
 decimal-requires c κs = search needs

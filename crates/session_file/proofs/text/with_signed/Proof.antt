@@ -1,26 +1,22 @@
 -- `session_file::text::with_signed` meets its contract: below 0, the size after a minus sign.
 use mathlib.Core.Bool.{true, false}
 use lib.Dec.{T}
-use lib.IntN.{ℤ, pos, natAbs, negℤ, _-ℤ_}
-use Rattle.session_file.specs.Numbers.{minus}
+use lib.IntN.{pos, natAbs, negℤ, _-ℤ_}
+use Rattle.session_words.specs.Bytes.{minus}
 use lib.Signed.{ltZ, nonNeg}
-use Rattle.session_file.proofs.Lists.{take-again}
+use Rattle.session_words.proofs.Lists.{take-again}
 use Rattle.session_file.proofs.Signs.{narrow, cast-fits, sub-fits, size-is, below-zero, below-fits, below-text, not-below, above-fits, above-text}
-use mathlib.Core.Path.{_≡_, sym, ap, ap₂, subst⁻¹, _∙_}
+use mathlib.Core.Path.{_≡_, sym, ap, subst⁻¹, _∙_}
 use mathlib.Core.List.{[], _∷_, _++_, append-assoc}
-use native.Mathlib.Omega.{arith}
 use lib.ListN.{take}
 use mir.Syntax.{w32, w64}
 use mir.Val.{Fits, toZ, ofZ}
-use mir.ValLaws.{toZ-ofZ}
-use Rattle.session_file.specs.Text.{room, said, decimalText, signedText}
+use Rattle.session_file.specs.Text.{room, said, decimalText}
 use borrow.Author.Needs.{needs}
 use Rattle.session_file.proofs.text.with_signed.Statement.{statement}
 use Rattle.session_file.proofs.text.with_signed.Tie as tie
 use Rattle.session_file.proofs.text.with_signed.Reads as reads
 use Rattle.session_file.proofs.text.with_signed.Lts as lts
-use Rattle.session_file.proofs.text.with.Reads as with-reads
-use Rattle.session_file.proofs.text.with_decimal.Reads as with-decimal-reads
 
 -- the test, of the number itself
 below-0 : (c : tie.Then1) → ltZ (c .before .args .n) (pos 0) ≡ true
