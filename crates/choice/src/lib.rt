@@ -14,6 +14,7 @@ ghost use Rattle.choice.specs.Code.{keyOf, keysOf, passed, lesserOf, Lis
 ghost use Rattle.choice.specs.Claims.{SearchOrderRule, NearPartRule, TriedIsPlace, NoBeamExactly, UnheardBytes, AnswersDiffer};
 use readings::LEVEL_HIGHEST;
 use refusal::Refusal;
+use sweep::CHANNELS;
 use sweep::NextChannel;
 use sweep::Sweep;
 
@@ -30,9 +31,6 @@ pub struct SweepChoice {
     pub sweep: Sweep,
     pub answer: Choice,
 }
-
-// Channel numbers run 0 to 1,087.
-const CHANNELS: usize = 1088;
 
 // The bits of a word of the sweep's maps.
 const WORD_BITS: usize = 64;

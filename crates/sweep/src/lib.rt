@@ -21,7 +21,7 @@ use refusal::Refusal;
 // The sweep record: a level in hundredths for each of the 1,088 channel numbers, and two maps, a bit per channel.
 #[repr(C)]
 pub struct Sweep {
-    pub levels: [i32; 1088],
+    pub levels: [i32; CHANNELS],
     pub visited: [u64; 17],
     pub heard: [u64; 17],
 }
@@ -55,10 +55,13 @@ pub struct SweepNumbers {
     pub answer: Numbers,
 }
 
-// The channels that the sweep visits.
-const FIRST_SWEPT: usize = 2;
+// Channel numbers run 0 to 1,087.
+pub const CHANNELS: usize = 1088;
 
-const LAST_SWEPT: usize = 1086;
+// The channels that the sweep visits.
+pub const FIRST_SWEPT: usize = 2;
+
+pub const LAST_SWEPT: usize = 1086;
 
 // The words of a map, and the bits of a word: as many bits as there are channel numbers.
 const WORDS: usize = 17;
@@ -111,7 +114,7 @@ fn set_bit(map: [u64; 17], c: usize) -> [u64; 17]
 
 // Whether the 32 levels from `at` on are in range, and 0 where the half word of the heard map has no bit.
 // All 32 are gathered before it leaves, and bits are as wide as levels, so that the compiled loop takes several at a time.
-fn half_fine(levels: &[i32; 1088], at: usize, heard: u32) -> bool
+fn half_fine(levels: &[i32; CHANNELS], at: usize, heard: u32) -> bool
     requires { ⌜ at + halfBits ≤ channels ⌝ }
     ensures { λ r. ⌜ r ≡ levelsFine (now (levels .entry)) at heard halfBits ⌝ }
 {
@@ -128,7 +131,7 @@ fn half_fine(levels: &[i32; 1088], at: usize, heard: u32) -> bool
 }
 
 // Whether a word of the maps, with its 64 levels, stands as it may: heard only where visited, and the levels as above.
-fn word_fine(levels: &[i32; 1088], at: usize, visited: u64, heard: u64) -> bool
+fn word_fine(levels: &[i32; CHANNELS], at: usize, visited: u64, heard: u64) -> bool
     requires { ⌜ at + wordBits ≤ channels ⌝ }
     ensures { λ r. ⌜ r ≡ wordFine (now (levels .entry)) at visited heard ⌝ }
 {
@@ -148,7 +151,11 @@ fn ends_clear(map: &[u64; 17]) -> bool
 }
 
 // Whether a record is well formed. It goes through the maps and the levels once, a word of 64 channels at a time.
-fn well_formed<'a>(levels: &'a [i32; 1088], visited: &'a [u64; 17], heard: &'a [u64; 17]) -> bool
+fn well_formed<'a>(
+    levels: &'a [i32; CHANNELS],
+    visited: &'a [u64; 17],
+    heard: &'a [u64; 17],
+) -> bool
     ensures { λ r. ⌜ r ≡ wellFormed (record { levels = now (levels .entry); visited = now (visited .entry); heard = now (heard .entry) }) ⌝ }
 {
     if !ends_clear(visited) {
