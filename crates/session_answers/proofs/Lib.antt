@@ -1,0 +1,2 @@
+-- The laws behind the proofs of the answers' lines.
+pub mod Room
