@@ -1,0 +1,6 @@
+-- The laws behind the proofs of a session, in the order in which they stand on each other.
+mod Cutting
+mod Kept
+mod Steps
+mod Lines
+mod Filling

@@ -1,0 +1,1 @@
+-- No law of its own: each call is proved by the contract of the one below.

@@ -1,0 +1,26 @@
+-- `session_state::calls::with_outcome` meets its contract: above the last channel nothing is set.
+use mathlib.Core.Path.{_≡_, sym}
+use native.Mathlib.Omega.{arith}
+use lib.ListN.{length}
+use lib.Seq.{set-out}
+use Rattle.sweep.specs.Map.{channels}
+use borrow.Author.Needs.{needs}
+use Rattle.session_state.proofs.calls.with_outcome.Statement.{statement}
+use Rattle.session_state.proofs.calls.with_outcome.Tie as tie
+use Rattle.session_state.proofs.calls.with_outcome.Reads as reads
+use Rattle.session_state.proofs.calls.with_outcome.Lts as lts
+
+returns : tie.Need-returns
+returns c =
+    let a = c .before .args in
+    let n : length (a .outcomes) ≡ channels = search needs in
+    sym (set-out (a .outcomes) (a .channel) (a .outcome) (omega (arith, n, c .if1 .taken)))
+
+array-write-bytes : tie.Need-array-write-bytes
+array-write-bytes c = search needs
+
+returns-2 : tie.Need-returns-2
+returns-2 c = search needs
+
+pub with-outcome-spec : {M : Type 1} → statement M
+with-outcome-spec = tie.close (tie.spec returns array-write-bytes returns-2)

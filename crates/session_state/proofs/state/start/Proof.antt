@@ -1,0 +1,29 @@
+-- `session_state::state::start` meets its contract: each part as its own call or zeros make it.
+use lib.ListN.{replicate}
+use Rattle.power.specs.PowerSteps.{allZeros}
+use Rattle.session_state.specs.State.{begins}
+use borrow.Author.Needs.{needs}
+use Rattle.session_state.proofs.state.start.Statement.{statement}
+use Rattle.session_state.proofs.state.start.Tie as tie
+use Rattle.session_state.proofs.state.start.Reads as reads
+use Rattle.session_state.proofs.state.start.Lts as lts
+
+fresh-requires : tie.Need-fresh-requires
+fresh-requires c κs = search needs
+
+fresh-requires-2 : tie.Need-fresh-requires-2
+fresh-requires-2 c κs = search needs
+
+returns : tie.Need-returns
+unfolding begins
+returns c i =
+    record {
+      sweep = c .before .fresh .ensures i;
+      outcomes = replicate 1088 0;
+      watch = c .fresh2 .ensures i;
+      power = allZeros;
+      parameters = record { sqt = 0; paninit = 0; panmin = 0; panmax = 0; gainup = 0; gaindn = 0; mestep = 0 };
+    }
+
+pub start-spec : {M : Type 1} → statement M
+start-spec = tie.close (tie.spec fresh-requires fresh-requires-2 returns)
