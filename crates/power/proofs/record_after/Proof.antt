@@ -16,7 +16,13 @@ increase-after-requires : tie.Need-increase-after-requires
 increase-after-requires c κs = search needs
 
 returns : tie.Need-returns
-returns c = cc
+returns c i =
+    record {
+      panlast = c .before .before .before .pan-use .ensures i;
+      parsave = c .before .before .par-save-after .ensures i;
+      panbasic = c .before .pan-basic-after .ensures i;
+      increase = c .increase-after .ensures i;
+    }
 
 pub record-after-spec : {M : Type 1} → statement M
 record-after-spec =
