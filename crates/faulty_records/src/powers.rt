@@ -59,13 +59,25 @@ fn say_calls(what: &[u8], r: PowerRecord) {
     say::end();
 }
 
-pub fn say_all() {
+fn say_sound() {
     say_calls(b"power, sound", record(30, 30, 30, 600));
     say_calls(b"power, all zeros", record(0, 0, 0, 0));
     say_calls(b"power, all highest", record(60, 60, 60, 24000));
+}
+
+fn say_codes() {
     say_calls(b"power, PANlast 61", record(61, 30, 30, 600));
     say_calls(b"power, PARsave 61", record(30, 61, 30, 600));
     say_calls(b"power, PANbasic 61", record(30, 30, 61, 600));
+}
+
+fn say_increases() {
     say_calls(b"power, increase 24200", record(30, 30, 30, 24200));
     say_calls(b"power, increase 100", record(30, 30, 30, 100));
+}
+
+pub fn say_all() {
+    say_sound();
+    say_codes();
+    say_increases();
 }

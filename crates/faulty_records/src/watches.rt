@@ -166,6 +166,9 @@ fn say_tracks(w: Watch) {
     say_calls(b"watch, 8 watched", with_watched(whole(), 8));
     say_calls(b"watch, serving channel 1088", with_channel(w, 0, 1088));
     say_calls(b"watch, neighbour 1088", with_channel(w, 2, 1088));
+}
+
+fn say_repeats(w: Watch) {
     say_calls(b"watch, neighbour is serving", with_channel(w, 2, 100));
     say_calls(b"watch, two neighbours equal", with_channel(w, 2, 200));
     say_calls(b"watch, a count of 16", with_count(w, 1, 16));
@@ -190,16 +193,22 @@ fn say_levels(w: Watch) {
     );
 }
 
-fn say_unused(w: Watch) {
+fn say_leftovers(w: Watch) {
     say_calls(b"watch, a level after 14", with_level(w, 0, 14, -1));
     say_calls(b"watch, a level after none", with_level(w, 2, 0, -1));
     say_calls(
         b"watch, channel in an unused track",
         with_channel(w, 3, 400),
     );
+}
+
+fn say_unused(w: Watch) {
     say_calls(b"watch, count in an unused track", with_count(w, 3, 1));
     say_calls(b"watch, level in an unused track", with_level(w, 3, 0, -1));
     say_calls(b"watch, channel in the last track", with_channel(w, 6, 400));
+}
+
+fn say_last(w: Watch) {
     say_calls(b"watch, count in the last track", with_count(w, 6, 1));
     say_calls(b"watch, level in the last track", with_level(w, 6, 14, -1));
     say_calls(
@@ -212,6 +221,9 @@ pub fn say_all() {
     let w = sound();
     say_sound(w);
     say_tracks(w);
+    say_repeats(w);
     say_levels(w);
+    say_leftovers(w);
     say_unused(w);
+    say_last(w);
 }

@@ -34,7 +34,17 @@ fn replay_block(session: Session, block: &[u8]) -> Turn {
     }
 }
 
-// Reads once and answers what came; at the end of the file, a last line that lacks its newline.
+// Answers a last line that lacks its newline.
+fn replay_last(session: Session) {
+    let mut out = io::buffer();
+    let last = session::finish(session);
+    let n = session_file::put(&mut out, 0, last);
+    if !io::write_all(STDOUT_FILENO, &out[..n]) {
+        os::fail(b"standard output");
+    }
+}
+
+// Reads once and answers what came, or at the end of the file its last line.
 fn replay_some(fd: i32, name: &[u8], session: Session) -> Turn {
     let mut block = io::large_buffer();
     let got = libc::read(fd, &mut block);
@@ -46,10 +56,7 @@ fn replay_some(fd: i32, name: &[u8], session: Session) -> Turn {
         };
     }
     if got == 0 {
-        let mut out = io::buffer();
-        let last = session::finish(session);
-        let n = session_file::put(&mut out, 0, last);
-        io::write_all(STDOUT_FILENO, &out[..n]);
+        replay_last(session);
         return Turn {
             session,
             more: false,

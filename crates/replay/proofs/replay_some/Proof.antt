@@ -1,6 +1,4 @@
--- `replay::replay_some` is safe: what is written is no more than the buffer holds.
-use mathlib.Core.Path.{sym}
-use lib.Seq.{length-take-le}
+-- `replay::replay_some` is safe: what is answered is no more than was read.
 use borrow.Author.Needs.{needs}
 use Rattle.replay.proofs.replay_some.Statement.{statement}
 use Rattle.replay.proofs.replay_some.Tie as tie
@@ -22,26 +20,8 @@ fail-requires c κs = search needs
 returns : tie.Need-returns
 returns c = search needs
 
-buffer-requires : tie.Need-buffer-requires
-buffer-requires c κs = search needs
-
-finish-requires : tie.Need-finish-requires
-finish-requires c κs = search needs
-
-slice-aggregate-put : tie.Need-slice-aggregate-put
-slice-aggregate-put c = search needs
-
-put-requires : tie.Need-put-requires
-put-requires c κs = search needs
-
-array-share-prefix-out : tie.Need-array-share-prefix-out
-array-share-prefix-out c = search needs
-
-slice-aggregate-write-all : tie.Need-slice-aggregate-write-all
-slice-aggregate-write-all c = sym (length-take-le _ _ (search needs))
-
-write-all-requires : tie.Need-write-all-requires
-write-all-requires c κs = search needs
+replay-last-requires : tie.Need-replay-last-requires
+replay-last-requires c κs = search needs
 
 returns-2 : tie.Need-returns-2
 returns-2 c = search needs
@@ -73,13 +53,7 @@ replay-some-spec =
     read-requires
     fail-requires
     returns
-    buffer-requires
-    finish-requires
-    slice-aggregate-put
-    put-requires
-    array-share-prefix-out
-    slice-aggregate-write-all
-    write-all-requires
+    replay-last-requires
     returns-2
     slice-aggregate-count
     count-requires
