@@ -5,32 +5,19 @@ ghost use Prim.Native.Nat.{_<_};
 ghost use lib.ListN.{take};
 ghost use Rattle.refusal.specs.Told.{gives, refusedFor};
 ghost use Rattle.readings.specs.Ranges.{levelInRange};
-ghost use Rattle.sweep.specs.Map.{channels, isSet};
-ghost use Rattle.sweep.specs.Record.{heard, levelAt, wellFormed};
-ghost use Rattle.choice.specs.Order.{channelsThat};
-ghost use Rattle.choice.specs.Choose.{marginInRange, outcomesFine, choosing};
-ghost use Rattle.choice.specs.Told.{toldChoice};
-ghost use Rattle.choice.specs.Code.{keyOf, keysOf, passed, lesserOf, Listed, Walkable, walked};
-ghost use Rattle.choice.specs.Claims.{SearchOrderRule, NearPartRule, TriedIsPlace, NoBeamExactly, UnheardBytes, AnswersDiffer};
+ghost use Rattle.sweep_rules.specs.Map.{channels, isSet};
+ghost use Rattle.sweep_rules.specs.Record.{heard, levelAt, wellFormed};
+ghost use Rattle.choice_rules.specs.Order.{channelsThat};
+ghost use Rattle.choice_rules.specs.Choose.{marginInRange, outcomesFine, choosing};
+ghost use Rattle.choice_rules.specs.Told.{toldChoice};
+ghost use Rattle.choice_rules.specs.Code.{keyOf, keysOf, passed, lesserOf, Listed, Walkable, walked};
+pub use choice_rules::Choice;
+pub use choice_rules::SweepChoice;
 use readings::LEVEL_HIGHEST;
 use refusal::Refusal;
 use sweep::CHANNELS;
 use sweep::NextChannel;
 use sweep::Sweep;
-
-// What is chosen: a channel to camp on or to read next, or no beam, each with the number of beams tried.
-pub enum Choice {
-    Camp { channel: u16, tried: u32 },
-    Read { channel: u16, tried: u32 },
-    NoBeam { tried: u32 },
-    Refused(Refusal),
-}
-
-// A sweep and what is chosen over it.
-pub struct SweepChoice {
-    pub sweep: Sweep,
-    pub answer: Choice,
-}
 
 // The bits of a word of the sweep's maps.
 const WORD_BITS: usize = 64;
@@ -208,13 +195,3 @@ pub fn choose(sweep: Sweep, margin: i32, outcomes: &[u8]) -> SweepChoice
     let answer = walk(&list, keys.count, margin as u32, outcomes);
     SweepChoice { sweep, answer }
 }
-
-// Nothing to run: its contract is all that is claimed of the choice beyond the calls, so that the check asks for the proof of each.
-pub fn claimed()
-    ensures order { λ _. ⌜ SearchOrderRule ⌝ }
-    ensures near { λ _. ⌜ NearPartRule ⌝ }
-    ensures tried { λ _. ⌜ TriedIsPlace ⌝ }
-    ensures nobeam { λ _. ⌜ NoBeamExactly ⌝ }
-    ensures unheard { λ _. ⌜ UnheardBytes ⌝ }
-    ensures told { λ _. ⌜ AnswersDiffer ⌝ }
-{}

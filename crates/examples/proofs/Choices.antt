@@ -8,13 +8,13 @@ use lib.ListN.{getD, replicate, set}
 use lib.IntN.{ℤ, pos}
 use Rattle.refusal.specs.Told.{gives}
 use Rattle.readings.specs.Ranges.{levelInRange}
-use Rattle.sweep.specs.Map.{channels, bitAt, isSet, withBit, allBelow}
-use Rattle.sweep.specs.Record.{heard, levelAt, implies, isZero, freshSweep, finished, heardWhereVisited, noBitOutside, zeroWhereNotHeard, levelsInRange, wellFormed}
-use Rattle.sweep.specs.declared.Sweep.{Sweep}
-use Rattle.sweep.proofs.Tests.{both, each-all}
-use Rattle.choice.specs.Order.{from, keep, beginning, insertBy, sortBy, searchOrder, nearOf, nearPart}
-use Rattle.choice.specs.Choose.{camp, read, noBeam, outcomesFine, firstOpen, placeIn, answerOf, chosenAmong, chosen, choosing}
-use Rattle.choice.proofs.Answers.{accepts}
+use Rattle.sweep_rules.specs.Map.{channels, bitAt, isSet, withBit, allBelow}
+use Rattle.sweep_rules.specs.Record.{heard, levelAt, implies, isZero, freshSweep, finished, heardWhereVisited, noBitOutside, zeroWhereNotHeard, levelsInRange, wellFormed}
+use Rattle.sweep_rules.specs.declared.Sweep.{Sweep}
+use Rattle.sweep_rules.proofs.Tests.{both, each-all}
+use Rattle.choice_rules.specs.Order.{from, keep, beginning, insertBy, sortBy, searchOrder, nearOf, nearPart}
+use Rattle.choice_rules.specs.Choose.{camp, read, noBeam, outcomesFine, firstOpen, placeIn, answerOf, chosenAmong, chosen, choosing}
+use Rattle.choice_rules.proofs.Answers.{accepts}
 use Rattle.examples.specs.Given.{minus, nothingHeard, threeHeard, nothingRead, threeRead}
 
 -- ---- the levels, by laws: to compute them channel by channel would take seconds

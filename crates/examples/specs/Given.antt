@@ -7,10 +7,10 @@ use lib.Ieee.{Float, binary32, ofBits}
 use Rattle.refusal.specs.Told.{Told, refused, gives}
 use Rattle.readings.specs.declared.Burst.{Burst}
 use Rattle.readings.specs.declared.Burst.the-variants.{Heard}
-use Rattle.sweep.specs.Map.{channels, words, withBit}
-use Rattle.sweep.specs.Record.{freshSweep}
-use Rattle.sweep.specs.declared.Sweep.{Sweep}
-use Rattle.choice.specs.Choose.{notRead, suitable, barred}
+use Rattle.sweep_rules.specs.Map.{channels, words, withBit}
+use Rattle.sweep_rules.specs.Record.{freshSweep}
+use Rattle.sweep_rules.specs.declared.Sweep.{Sweep}
+use Rattle.choice_rules.specs.Choose.{notRead, suitable, barred}
 use Rattle.watch_rules.specs.Told.{Call, start, newList, file, Given}
 use Rattle.watch_rules.specs.Record.{fresh, called, afterFrom}
 use Rattle.power.specs.declared.PowerParameters.{PowerParameters}

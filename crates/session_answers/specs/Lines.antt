@@ -4,9 +4,9 @@ use mathlib.Core.List.{List, [], _∷_, _++_}
 use lib.IntN.{ℤ}
 use lib.Ieee.{Float}
 use Rattle.refusal.specs.Told.{Told, gives, refused}
-use Rattle.sweep.specs.Next.{Next, channel, done}
-use Rattle.sweep.specs.Counts.{Counts}
-use Rattle.choice.specs.Choose.{Chosen, camp, read, noBeam}
+use Rattle.sweep_rules.specs.Next.{Next, channel, done}
+use Rattle.sweep_rules.specs.Counts.{Counts}
+use Rattle.choice_rules.specs.Choose.{Chosen, camp, read, noBeam}
 use Rattle.watch_rules.specs.Told.{Given, accepted, levels, wait, stay, moveTo}
 use Rattle.power.specs.Calls.{ToSend}
 use Rattle.session_words.specs.Bytes.{bytesOf}

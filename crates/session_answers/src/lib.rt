@@ -6,14 +6,14 @@ ghost use lib.ListN.{length};
 ghost use Rattle.refusal.specs.Number.{numberOf};
 ghost use Rattle.refusal.specs.Told.{toldOutcome};
 ghost use Rattle.readings.specs.Told.{toldHundredths, toldShown};
-ghost use Rattle.sweep.specs.Told.{toldNext, toldNumbers};
-ghost use Rattle.choice.specs.Told.{toldChoice};
+ghost use Rattle.sweep_rules.specs.Told.{toldNext, toldNumbers};
+ghost use Rattle.choice_rules.specs.Told.{toldChoice};
 ghost use Rattle.watch_rules.specs.Told.{told, levels};
 ghost use Rattle.power.specs.Told.{toldAnswer};
 ghost use Rattle.session_file.specs.Text.{room, said, decimalText};
 ghost use Rattle.session_answers.specs.Lines.{line, refusedText, hundredthsText, floatText, watchText};
 ghost use Rattle.session_answers.specs.Lines.{outcomeLine, hundredthsLine, floatLine, nextLine, countsLine, choiceLine, watchLine, powerLine, errorLine};
-use choice::Choice;
+use choice_rules::Choice;
 use readings::Hundredths;
 use readings::Shown;
 use refusal::Outcome;
@@ -24,8 +24,8 @@ use session_file::with;
 use session_file::with_bits;
 use session_file::with_decimal;
 use session_file::with_signed;
-use sweep::NextChannel;
-use sweep::Numbers;
+use sweep_rules::NextChannel;
+use sweep_rules::Numbers;
 
 // Words alone. Here and below, what is written finds room whatever the numbers are: none has more than 20 digits.
 fn only(words: &[u8]) -> Text

@@ -6,12 +6,12 @@ use Rattle.refusal.specs.Told.{accepted}
 use Rattle.readings.specs.declared.Burst.the-variants.{Missed}
 use Rattle.readings.specs.Hundredths.{levelOf, qualityOf}
 use Rattle.readings.specs.Float.{levelShown, qualityShown}
-use Rattle.sweep.specs.declared.Sweep.{Sweep}
-use Rattle.sweep.specs.Record.{firstSwept, sweptChannels, freshSweep}
-use Rattle.sweep.specs.Filing.{filing, leaves, answers}
-use Rattle.sweep.specs.Next.{nextTold}
-use Rattle.sweep.specs.Counts.{countsTold}
-use Rattle.choice.specs.Choose.{choosing}
+use Rattle.sweep_rules.specs.declared.Sweep.{Sweep}
+use Rattle.sweep_rules.specs.Record.{firstSwept, sweptChannels, freshSweep}
+use Rattle.sweep_rules.specs.Filing.{filing, leaves, answers}
+use Rattle.sweep_rules.specs.Next.{nextTold}
+use Rattle.sweep_rules.specs.Counts.{countsTold}
+use Rattle.choice_rules.specs.Choose.{choosing}
 use Rattle.watch_rules.specs.declared.Watch.{Watch}
 use Rattle.watch_rules.specs.Told as rules
 use Rattle.watch_rules.specs.Record.{called}

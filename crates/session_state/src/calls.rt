@@ -4,7 +4,7 @@ ghost use lib.ListN.{set};
 ghost use Rattle.session_file.specs.Text.{said};
 ghost use Rattle.watch_rules.specs.Told.{toldHanded};
 ghost use Rattle.watch_rules.specs.Record.{called};
-ghost use Rattle.sweep.specs.Record.{firstSwept, sweptChannels};
+ghost use Rattle.sweep_rules.specs.Record.{firstSwept, sweptChannels};
 ghost use Rattle.session_calls.specs.Asked.{watchCall, toldCall};
 ghost use Rattle.session_calls.specs.declared.SweepCall.the-variants as sweep-call;
 ghost use Rattle.session_calls.specs.declared.PowerCall.the-variants as power-call;

@@ -1,67 +1,30 @@
-// The band sweep: its record, filing, the next channel and the counts. Document 01, section The band sweep.
+// The calls of the band sweep: filing, the next channel, the counts and the test of a record. Document 01, section The band sweep.
 ghost use mathlib.Core.Path.{_≡_};
 ghost use mathlib.Core.Bool.{true, false};
 ghost use Prim.Native.Nat.{_+_, _≤_, _<_};
 ghost use Rattle.refusal.specs.Told.{gives, toldOutcome, accepted, refusedFor};
-ghost use Rattle.sweep.specs.Map.{channels, wordBits, isSet, withBit, setBits};
-ghost use Rattle.sweep.specs.Record.{firstSwept, sweptChannels, swept, visited, heard, freshSweep, wellFormed};
-ghost use Rattle.sweep.specs.Filing.{withMissed, withHeard, filing, leaves, answers, checking};
-ghost use Rattle.sweep.specs.Next.{lowestNot, nextTold};
-ghost use Rattle.sweep.specs.Counts.{countsTold};
-ghost use Rattle.sweep.specs.Told.{toldNext, toldNumbers};
-ghost use Rattle.sweep.specs.Code.{halfBits, levelsFine, wordFine, endsClear};
-ghost use Rattle.sweep.specs.Claims.{OnesAreChannels, OneBitSet, WellFormedRule, NextLowest, FiledFromFresh, AnswersDiffer};
+ghost use Rattle.sweep_rules.specs.Map.{channels, wordBits, isSet, withBit, setBits};
+ghost use Rattle.sweep_rules.specs.Record.{firstSwept, sweptChannels, swept, visited, heard, freshSweep, wellFormed};
+ghost use Rattle.sweep_rules.specs.Filing.{withMissed, withHeard, filing, leaves, answers, checking};
+ghost use Rattle.sweep_rules.specs.Next.{lowestNot, nextTold};
+ghost use Rattle.sweep_rules.specs.Counts.{countsTold};
+ghost use Rattle.sweep_rules.specs.Told.{toldNext, toldNumbers};
+ghost use Rattle.sweep_rules.specs.Code.{halfBits, levelsFine, wordFine, endsClear};
 use readings::Burst;
 use readings::BurstHundredths;
 use readings::LEVEL_HIGHEST;
 use readings::LEVEL_LOWEST;
 use refusal::Outcome;
 use refusal::Refusal;
-
-// The sweep record: a level in hundredths for each of the 1,088 channel numbers, and two maps, a bit per channel.
-#[repr(C)]
-pub struct Sweep {
-    pub levels: [i32; CHANNELS],
-    pub visited: [u64; 17],
-    pub heard: [u64; 17],
-}
-
-// A sweep and the answer of a call that gives no value.
-pub struct SweepOutcome {
-    pub sweep: Sweep,
-    pub answer: Outcome,
-}
-
-// The lowest channel not visited.
-pub enum NextChannel {
-    Channel(u16),
-    Done,
-    Refused(Refusal),
-}
-
-pub struct SweepNext {
-    pub sweep: Sweep,
-    pub answer: NextChannel,
-}
-
-// The numbers of channels visited and heard.
-pub enum Numbers {
-    Of { visited: u32, heard: u32 },
-    Refused(Refusal),
-}
-
-pub struct SweepNumbers {
-    pub sweep: Sweep,
-    pub answer: Numbers,
-}
-
-// Channel numbers run 0 to 1,087.
-pub const CHANNELS: usize = 1088;
-
-// The channels that the sweep visits.
-pub const FIRST_SWEPT: usize = 2;
-
-pub const LAST_SWEPT: usize = 1086;
+pub use sweep_rules::CHANNELS;
+pub use sweep_rules::FIRST_SWEPT;
+pub use sweep_rules::LAST_SWEPT;
+pub use sweep_rules::NextChannel;
+pub use sweep_rules::Numbers;
+pub use sweep_rules::Sweep;
+pub use sweep_rules::SweepNext;
+pub use sweep_rules::SweepNumbers;
+pub use sweep_rules::SweepOutcome;
 
 // The words of a map, and the bits of a word: as many bits as there are channel numbers.
 const WORDS: usize = 17;
@@ -318,13 +281,3 @@ pub fn counts(sweep: Sweep) -> SweepNumbers
         answer: Numbers::Of { visited, heard },
     }
 }
-
-// Nothing to run: its contract is all that is claimed of the sweep beyond the calls, so that the check asks for the proof of each.
-pub fn claimed()
-    ensures ones { λ _. ⌜ OnesAreChannels ⌝ }
-    ensures bits { λ _. ⌜ OneBitSet ⌝ }
-    ensures formed { λ _. ⌜ WellFormedRule ⌝ }
-    ensures next { λ _. ⌜ NextLowest ⌝ }
-    ensures filed { λ _. ⌜ FiledFromFresh ⌝ }
-    ensures told { λ _. ⌜ AnswersDiffer ⌝ }
-{}

@@ -13,15 +13,15 @@ use mir.Val.{toZ, ofZ}
 use mir.ValLaws.{toZ-ofZ}
 use borrow.Author.Tests.{not-true, not-false}
 use Rattle.refusal.specs.Told.{gives}
-use Rattle.sweep.specs.Record.{heard, wellFormed, finished}
-use Rattle.sweep.specs.Told.{toldNext}
-use Rattle.sweep.proofs.Tests.{left, right}
-use Rattle.choice.specs.Choose.{marginLowest, marginHighest, marginInRange, outcomesFine, chosen}
-use Rattle.choice.specs.Code.{Keyed, walked}
-use Rattle.choice.proofs.Whole.{not-negative, size-le}
-use Rattle.choice.proofs.Answers.{fine-length}
-use Rattle.choice.proofs.KeyOrder.{walk-chooses, keys-keyed}
-use Rattle.choice.proofs.Endings.{says-8, says-7, says-4, says-chosen, next-refused, next-formed, next-unfinished, next-finished}
+use Rattle.sweep_rules.specs.Record.{heard, wellFormed, finished}
+use Rattle.sweep_rules.specs.Told.{toldNext}
+use Rattle.sweep_rules.proofs.Tests.{left, right}
+use Rattle.choice_rules.specs.Choose.{marginLowest, marginHighest, marginInRange, outcomesFine, chosen}
+use Rattle.choice_rules.specs.Code.{Keyed, walked}
+use Rattle.choice_rules.proofs.Whole.{not-negative, size-le}
+use Rattle.choice_rules.proofs.Answers.{fine-length}
+use Rattle.choice_rules.proofs.KeyOrder.{walk-chooses, keys-keyed}
+use Rattle.choice_rules.proofs.Endings.{says-8, says-7, says-4, says-chosen, next-refused, next-formed, next-unfinished, next-finished}
 use borrow.Author.Needs.{needs}
 use Rattle.choice.proofs.choose.Statement.{statement}
 use Rattle.choice.proofs.choose.Tie as tie

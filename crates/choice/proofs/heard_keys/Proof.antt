@@ -9,11 +9,11 @@ use lib.IntN.{ℤ, pos}
 use mir.Syntax.{w32}
 use mir.ValLaws.{toZ-ofZ}
 use Rattle.readings.specs.Ranges.{levelInRange}
-use Rattle.sweep.specs.Map.{channels, isSet}
-use Rattle.sweep.specs.Record.{levelAt}
-use Rattle.sweep.proofs.Formed.{wellFormedRule}
-use Rattle.choice.specs.Code.{keyOf}
-use Rattle.choice.proofs.Gathered.{Gathered, gathered-start, gathered-same, gathered-new, gathered-end}
+use Rattle.sweep_rules.specs.Map.{channels, isSet}
+use Rattle.sweep_rules.specs.Record.{levelAt}
+use Rattle.sweep_rules.proofs.Formed.{wellFormedRule}
+use Rattle.choice_rules.specs.Code.{keyOf}
+use Rattle.choice_rules.proofs.Gathered.{Gathered, gathered-start, gathered-same, gathered-new, gathered-end}
 use Rattle.choice.proofs.heard_keys.Statement.{statement}
 use Rattle.choice.proofs.heard_keys.Tie as tie
 

@@ -6,9 +6,9 @@ use lib.IntN.{ℤ}
 use mir.Syntax.{w32}
 use mir.Val.{toZ, ofZ}
 use mir.ValLaws.{toZ-ofZ}
-use Rattle.choice.specs.Code.{keyStep}
-use Rattle.choice.proofs.KeyOrder.{depth-le}
-use Rattle.choice.proofs.Depths.{depth-fits, depth-nonneg, depth-is}
+use Rattle.choice_rules.specs.Code.{keyStep}
+use Rattle.choice_rules.proofs.KeyOrder.{depth-le}
+use Rattle.choice_rules.proofs.Depths.{depth-fits, depth-nonneg, depth-is}
 use borrow.Author.Needs.{needs}
 use Rattle.choice.proofs.key.Statement.{statement}
 use Rattle.choice.proofs.key.Tie as tie

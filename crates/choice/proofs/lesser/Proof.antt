@@ -6,7 +6,7 @@ use mathlib.Core.Logic.{⊎-elim}
 use native.Mathlib.Omega.{arith}
 use borrow.Author.Tests.{lt-ltb, le-ltb}
 use lib.Dec.{ltb}
-use Rattle.choice.specs.Code.{passed}
+use Rattle.choice_rules.specs.Code.{passed}
 use borrow.Author.Needs.{needs}
 use Rattle.choice.proofs.lesser.Statement.{statement}
 use Rattle.choice.proofs.lesser.Tie as tie

@@ -8,8 +8,8 @@ use native.Mathlib.Numerals.{add-one}
 use lib.ListN.{length}
 use lib.Dec.{leb}
 use borrow.Author.Tests.{eq-eqb, ne-eqb}
-use Rattle.sweep.specs.Map.{channels, allBelow}
-use Rattle.choice.specs.Choose.{highestOutcome, outcomeAt, outcomesFine}
+use Rattle.sweep_rules.specs.Map.{channels, allBelow}
+use Rattle.choice_rules.specs.Choose.{highestOutcome, outcomeAt, outcomesFine}
 use Rattle.choice.proofs.outcomes_fine.Statement.{statement}
 use Rattle.choice.proofs.outcomes_fine.Tie as tie
 

@@ -7,7 +7,7 @@ use native.Mathlib.Omega.{arith}
 use lib.ListN.{length}
 use lib.Arith.{lt-of-le-ne}
 use Rattle.refusal.specs.Told.{gives}
-use Rattle.choice.proofs.Turns.{Least, least-start, least-turn, small-at, NextKey, least-next, leftFrom, top, Walked, walked-start, top-small, says-end, first-top, less, says-far, says-read, says-camp, walked-on}
+use Rattle.choice_rules.proofs.Turns.{Least, least-start, least-turn, small-at, NextKey, least-next, leftFrom, top, Walked, walked-start, top-small, says-end, first-top, less, says-far, says-read, says-camp, walked-on}
 use Rattle.choice.proofs.walk.Statement.{statement}
 use Rattle.choice.proofs.walk.Tie as tie
 

@@ -1,7 +1,7 @@
 -- `check` meets its contract: its answer goes by the test of the record.
 use mathlib.Core.Path.{sym, _∙_}
-use Rattle.sweep.specs.Filing.{checking}
-use Rattle.sweep.proofs.Filed.{granted, denied}
+use Rattle.sweep_rules.specs.Filing.{checking}
+use Rattle.sweep_rules.proofs.Filed.{granted, denied}
 use borrow.Author.Needs.{needs}
 use Rattle.sweep.proofs.check.Statement.{statement}
 use Rattle.sweep.proofs.check.Tie as tie

@@ -4,8 +4,8 @@ use mathlib.Core.Path.{refl, sym, ap₂, _∙_}
 use borrow.Author.Needs.{needs}
 use borrow.Author.Tests.{not-true, not-false}
 use Rattle.refusal.specs.Told.{gives}
-use Rattle.sweep.specs.Counts.{countsOf, countsTold}
-use Rattle.sweep.proofs.Filed.{granted, denied}
+use Rattle.sweep_rules.specs.Counts.{countsOf, countsTold}
+use Rattle.sweep_rules.proofs.Filed.{granted, denied}
 use Rattle.sweep.proofs.counts.Statement.{statement}
 use Rattle.sweep.proofs.counts.Tie as tie
 

@@ -1,5 +1,5 @@
 -- `ends_clear` meets its contract: the channels below 2 are the lowest two bits of the first word, the one above 1,086 is the highest of the last.
-use Rattle.sweep.proofs.Formed.{ends-test}
+use Rattle.sweep_rules.proofs.Formed.{ends-test}
 use borrow.Author.Needs.{needs}
 use Rattle.sweep.proofs.ends_clear.Statement.{statement}
 use Rattle.sweep.proofs.ends_clear.Tie as tie

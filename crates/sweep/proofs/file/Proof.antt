@@ -8,11 +8,11 @@ use mir.ValLaws.{toZ-ofZ}
 use borrow.Author.Tests.{not-true, not-false}
 use Rattle.readings.specs.Burst.{burstOf}
 use Rattle.readings.specs.Told.{toldBurst}
-use Rattle.sweep.specs.Map.{channels}
-use Rattle.sweep.specs.Record.{swept, visited, wellFormed}
-use Rattle.sweep.specs.Filing.{filing, withHeard, withBurst}
-use Rattle.sweep.proofs.Formed.{not-heard, swept-channel}
-use Rattle.sweep.proofs.Filed.{file-9, file-2, file-3, file-in, burst-missed, burst-heard, burst-refused, hands-refused, hands-accepted}
+use Rattle.sweep_rules.specs.Map.{channels}
+use Rattle.sweep_rules.specs.Record.{swept, visited, wellFormed}
+use Rattle.sweep_rules.specs.Filing.{filing, withHeard, withBurst}
+use Rattle.sweep_rules.proofs.Formed.{not-heard, swept-channel}
+use Rattle.sweep_rules.proofs.Filed.{file-9, file-2, file-3, file-in, burst-missed, burst-heard, burst-refused, hands-refused, hands-accepted}
 use Rattle.sweep.proofs.file.Statement.{statement}
 use Rattle.sweep.proofs.file.Tie as tie
 

@@ -1,6 +1,6 @@
 -- `fresh` meets its contract: both sides are the record of zeros.
 use mathlib.Core.Path.{refl}
-use Rattle.sweep.specs.Record.{freshSweep}
+use Rattle.sweep_rules.specs.Record.{freshSweep}
 use Rattle.sweep.proofs.fresh.Statement.{statement}
 use Rattle.sweep.proofs.fresh.Tie as tie
 

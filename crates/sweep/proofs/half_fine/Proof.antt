@@ -12,10 +12,10 @@ use mir.Syntax.{w32}
 use mir.Val.{ofZ, SFits}
 use mir.ValLaws.{toZ-ofZ}
 use Rattle.readings.specs.Ranges.{levelInRange}
-use Rattle.sweep.specs.Map.{bitAt, allBelow}
-use Rattle.sweep.specs.Record.{isZero}
-use Rattle.sweep.specs.Code.{levelFine, levelsFine}
-use Rattle.sweep.proofs.Levels.{zero-test}
+use Rattle.sweep_rules.specs.Map.{bitAt, allBelow}
+use Rattle.sweep_rules.specs.Record.{isZero}
+use Rattle.sweep_rules.specs.Code.{levelFine, levelsFine}
+use Rattle.sweep_rules.proofs.Levels.{zero-test}
 use Rattle.sweep.proofs.half_fine.Statement.{statement}
 use Rattle.sweep.proofs.half_fine.Tie as tie
 

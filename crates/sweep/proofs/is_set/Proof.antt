@@ -1,6 +1,6 @@
 -- `is_set` meets its contract: the code is the definition, with the shift as a division by a power of two.
 use mathlib.Core.Path.{refl}
-use Rattle.sweep.specs.Map.{bitAt, isSet}
+use Rattle.sweep_rules.specs.Map.{bitAt, isSet}
 use borrow.Author.Needs.{needs}
 use Rattle.sweep.proofs.is_set.Statement.{statement}
 use Rattle.sweep.proofs.is_set.Tie as tie

@@ -2,11 +2,11 @@
 use Prim.Native.Nat.{_-_, _≤_}
 use mathlib.Core.Path.{_≡_, refl, sym, ap, _∙_}
 use native.Mathlib.Omega.{arith}
-use Rattle.sweep.specs.Map.{isSet}
-use Rattle.sweep.specs.Next.{lowestNot}
+use Rattle.sweep_rules.specs.Map.{isSet}
+use Rattle.sweep_rules.specs.Next.{lowestNot}
 use borrow.Author.Tests.{not-true, not-false}
 use Rattle.refusal.specs.Told.{gives}
-use Rattle.sweep.proofs.Lowest.{lowest-here, lowest-step, lowest-none}
+use Rattle.sweep_rules.proofs.Lowest.{lowest-here, lowest-step, lowest-none}
 use Rattle.sweep.proofs.lowest_clear.Statement.{statement}
 use Rattle.sweep.proofs.lowest_clear.Tie as tie
 

@@ -2,8 +2,8 @@
 use mathlib.Core.Path.{refl, sym, _∙_}
 use borrow.Author.Needs.{needs}
 use borrow.Author.Tests.{not-true, not-false}
-use Rattle.sweep.specs.Next.{nextOf, nextTold}
-use Rattle.sweep.proofs.Filed.{granted, denied}
+use Rattle.sweep_rules.specs.Next.{nextOf, nextTold}
+use Rattle.sweep_rules.proofs.Filed.{granted, denied}
 use Rattle.sweep.proofs.next.Statement.{statement}
 use Rattle.sweep.proofs.next.Tie as tie
 

@@ -4,9 +4,9 @@ use mathlib.Core.Path.{_≡_, refl, sym, ap, _∙_}
 use native.Mathlib.Omega.{arith}
 use lib.ListN.{getD}
 use lib.Count.{ones, ones-le}
-use Rattle.sweep.specs.Map.{isSet, howMany, setBits}
-use Rattle.sweep.proofs.Tests.{many-le}
-use Rattle.sweep.proofs.Maps.{words-fit, many-word}
+use Rattle.sweep_rules.specs.Map.{isSet, howMany, setBits}
+use Rattle.sweep_rules.proofs.Tests.{many-le}
+use Rattle.sweep_rules.proofs.Maps.{words-fit, many-word}
 use Rattle.sweep.proofs.ones.Statement.{statement}
 use Rattle.sweep.proofs.ones.Tie as tie
 

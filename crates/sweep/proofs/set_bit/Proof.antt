@@ -3,9 +3,9 @@ use Prim.Native.Nat.{ℕ, _+_, _<_, _^_, _/_, _%_}
 use mathlib.Core.Path.{sym, ap, _∙_, subst}
 use native.Mathlib.Omega.{arith}
 use lib.ListN.{getD, set}
-use Rattle.sweep.specs.Map.{isSet, withBit}
-use Rattle.sweep.proofs.Words.{set-fits, power-is}
-use Rattle.sweep.proofs.Maps.{words-fit}
+use Rattle.sweep_rules.specs.Map.{isSet, withBit}
+use Rattle.sweep_rules.proofs.Words.{set-fits, power-is}
+use Rattle.sweep_rules.proofs.Maps.{words-fit}
 use borrow.Author.Needs.{needs}
 use Rattle.sweep.proofs.set_bit.Statement.{statement}
 use Rattle.sweep.proofs.set_bit.Tie as tie

@@ -6,8 +6,8 @@ use mathlib.Core.Bool.{true}
 use native.Mathlib.Omega.{arith}
 use borrow.Author.Count.{below-none, below-more}
 use borrow.Author.Tests.{not-true, not-false}
-use Rattle.sweep.proofs.Tests.{clash}
-use Rattle.sweep.proofs.Formed.{formed, unformed, wordOf, words-formed, formed-ends, formed-word}
+use Rattle.sweep_rules.proofs.Tests.{clash}
+use Rattle.sweep_rules.proofs.Formed.{formed, unformed, wordOf, words-formed, formed-ends, formed-word}
 use Rattle.sweep.proofs.well_formed.Statement.{statement}
 use Rattle.sweep.proofs.well_formed.Tie as tie
 

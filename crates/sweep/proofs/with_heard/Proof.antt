@@ -2,7 +2,7 @@
 use mir.Syntax.{w32}
 use mir.ValLaws.{toZ-ofZ}
 use borrow.Author.Needs.{needs}
-use Rattle.sweep.proofs.Filed.{heard-is}
+use Rattle.sweep_rules.proofs.Filed.{heard-is}
 use Rattle.sweep.proofs.with_heard.Statement.{statement}
 use Rattle.sweep.proofs.with_heard.Tie as tie
 

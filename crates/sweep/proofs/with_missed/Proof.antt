@@ -1,6 +1,6 @@
 -- `with_missed` meets its contract: the record is made of the map with a bit more.
 use borrow.Author.Needs.{needs}
-use Rattle.sweep.proofs.Filed.{missed-is}
+use Rattle.sweep_rules.proofs.Filed.{missed-is}
 use Rattle.sweep.proofs.with_missed.Statement.{statement}
 use Rattle.sweep.proofs.with_missed.Tie as tie
 

@@ -1,9 +1,9 @@
 -- `word_fine` meets its contract: the common bits are tested at once, and the levels by the halves of the word.
 use mathlib.Core.Path.{sym, ap₂, _∙_}
 use mathlib.Core.Bool.{Bool, _&&_}
-use Rattle.sweep.specs.Code.{wordFine}
-use Rattle.sweep.proofs.Words.{within-test}
-use Rattle.sweep.proofs.Levels.{halves}
+use Rattle.sweep_rules.specs.Code.{wordFine}
+use Rattle.sweep_rules.proofs.Words.{within-test}
+use Rattle.sweep_rules.proofs.Levels.{halves}
 use borrow.Author.Needs.{needs}
 use Rattle.sweep.proofs.word_fine.Statement.{statement}
 use Rattle.sweep.proofs.word_fine.Tie as tie

@@ -2,7 +2,7 @@
 use mathlib.Core.Path.{ap, _∙_}
 use mir.Syntax.{w32}
 use mir.ValLaws.{toZ-ofZ}
-use Rattle.choice.specs.Choose.{choosing}
+use Rattle.choice_rules.specs.Choose.{choosing}
 use Rattle.session_answers.specs.Lines.{choiceLine}
 use Rattle.session_state.specs.Calls.{sweepWritten, only}
 use borrow.Author.Needs.{needs}

@@ -3,11 +3,11 @@ use mathlib.Core.Path.{_≡_, refl, sym, ap, _∙_}
 use borrow.Author.Needs.{needs}
 use native.Mathlib.Numerals.{add-one}
 use Rattle.readings.specs.declared.Burst.the-variants.{Missed}
-use Rattle.sweep.specs.declared.Sweep.{Sweep}
-use Rattle.sweep.specs.Filing.{filing, leaves}
+use Rattle.sweep_rules.specs.declared.Sweep.{Sweep}
+use Rattle.sweep_rules.specs.Filing.{filing, leaves}
 use Prim.Native.Nat.{ℕ, suc, _+_, _-_, _≤_}
 use native.Mathlib.Omega.{arith}
-use Rattle.sweep.specs.Record.{firstSwept, lastSwept, sweptChannels}
+use Rattle.sweep_rules.specs.Record.{firstSwept, lastSwept, sweptChannels}
 use Rattle.session_state.specs.Calls.{missedFrom}
 use Rattle.session_state.proofs.calls.rest_missed.Statement.{statement}
 use Rattle.session_state.proofs.calls.rest_missed.Tie as tie

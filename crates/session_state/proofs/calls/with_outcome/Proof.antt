@@ -3,7 +3,7 @@ use mathlib.Core.Path.{_≡_, sym}
 use native.Mathlib.Omega.{arith}
 use lib.ListN.{length}
 use lib.Seq.{set-out}
-use Rattle.sweep.specs.Map.{channels}
+use Rattle.sweep_rules.specs.Map.{channels}
 use borrow.Author.Needs.{needs}
 use Rattle.session_state.proofs.calls.with_outcome.Statement.{statement}
 use Rattle.session_state.proofs.calls.with_outcome.Tie as tie

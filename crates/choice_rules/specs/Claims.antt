@@ -1,0 +1,95 @@
+-- What is claimed of the choice beyond the call's contract; proved in `proofs/Claims.antt` under the same names.
+use Prim.Native.Nat.{ℕ, suc, _≤_, _<_}
+use mathlib.Core.Path.{_≡_}
+use mathlib.Core.Bool.{Bool, true}
+use mathlib.Core.Logic.{_↔_, _⊎_}
+use mathlib.Core.List.{List, List·Memᴰ, IsPrefix}
+use lib.ListN.{getD, length}
+use lib.IntN.{ℤ, _-ℤ_}
+use lib.Signed.{_≤ℤ_, _<ℤ_}
+use Rattle.refusal.specs.Told.{gives}
+use Rattle.refusal.specs.Claims.{OneToOne}
+use Rattle.sweep_rules.specs.Map.{channels}
+use Rattle.sweep_rules.specs.Record.{heard, levelAt}
+use Rattle.sweep_rules.specs.declared.Sweep.{Sweep}
+use Rattle.choice_rules.specs.Order.{searchOrder, nearPart}
+use Rattle.choice_rules.specs.Choose.{notRead, suitable, barred, highestOutcome, outcomeAt, outcomesFine, Chosen, camp, read, noBeam, choosing}
+use Rattle.choice_rules.specs.Told.{toldChoice}
+
+-- ---- the search order, over the channels that pass a test
+
+-- the channel is one of those
+abbrev pub Passes : (ℕ → Bool) → ℕ → Type 0
+Passes test c = (c < channels) × (test c ≡ true)
+
+-- by falling level, equal levels by rising channel number
+abbrev pub Before : Sweep → ℕ → ℕ → Type 0
+Before s c d = (levelAt s d <ℤ levelAt s c) ⊎ ((levelAt s c ≡ levelAt s d) × (c < d))
+
+pub record OrderRule (test : ℕ → Bool) (s : Sweep) : Type 0 where
+  -- it holds exactly these channels
+  pub exactly : (c : ℕ) → List·Memᴰ c (searchOrder test s) ↔ Passes test c
+  -- each once: no two places hold the same
+  pub once : (i j : ℕ) → i < j → j < length (searchOrder test s) → getD (searchOrder test s) i 0 ≡ getD (searchOrder test s) j 0 → ⊥
+  -- and sorted: of two places the earlier one's comes before
+  pub sorted : (i j : ℕ) → i < j → j < length (searchOrder test s) → Before s (getD (searchOrder test s) i 0) (getD (searchOrder test s) j 0)
+
+abbrev pub SearchOrderRule : Type 0
+SearchOrderRule = (s : Sweep) → OrderRule (heard s) s
+
+-- ---- the near part, in terms of channels and levels alone
+
+-- l is the strongest level of the channels that pass a test
+pub record Strongest (test : ℕ → Bool) (s : Sweep) (l : ℤ) : Type 0 where
+  pub reached : (c : ℕ) × Passes test c × (levelAt s c ≡ l)
+  pub highest : (c : ℕ) → Passes test c → levelAt s c ≤ℤ l
+
+-- the channel's level is at most the margin below the strongest
+abbrev pub WithinMargin : (ℕ → Bool) → Sweep → ℤ → ℕ → Type 0
+WithinMargin test s m c = (l : ℤ) × Strongest test s l × ((l -ℤ levelAt s c) ≤ℤ m)
+
+pub record NearRule (test : ℕ → Bool) (s : Sweep) (m : ℤ) : Type 0 where
+  -- it is a beginning of the search order
+  pub begins : IsPrefix (nearPart test s m) (searchOrder test s)
+  -- and holds exactly the channels at most the margin below the strongest
+  pub exactly : (c : ℕ) → List·Memᴰ c (nearPart test s m) ↔ (Passes test c × WithinMargin test s m c)
+
+abbrev pub NearPartRule : Type 0
+NearPartRule = (s : Sweep) (m : ℤ) → NearRule (heard s) s m
+
+-- ---- the answer of an accepted choice
+
+-- read, and not suitable: an outcome of 2 to 5
+abbrev pub Unsuitable : List ℕ → ℕ → Type 0
+Unsuitable o c = (barred ≤ outcomeAt o c) × (outcomeAt o c ≤ highestOutcome)
+
+-- c is the first near channel with an outcome of 0 or 1, and n its place in the search order, counted from 1
+pub record Named (s : Sweep) (m : ℤ) (o : List ℕ) (c n : ℕ) : Type 0 where
+  pub near : List·Memᴰ c (nearPart (heard s) s m)
+  pub place : (j : ℕ) × (n ≡ suc j) × (j < length (nearPart (heard s) s m)) × (getD (searchOrder (heard s) s) j 0 ≡ c)
+  pub first : (i : ℕ) → suc i < n → Unsuitable o (getD (searchOrder (heard s) s) i 0)
+
+pub record AnswerRule (s : Sweep) (m : ℤ) (o : List ℕ) : Type 0 where
+  pub camps : (c n : ℕ) → choosing s m o ≡ gives (camp c n) → Named s m o c n × (outcomeAt o c ≡ suitable)
+  pub reads : (c n : ℕ) → choosing s m o ≡ gives (read c n) → Named s m o c n × (outcomeAt o c ≡ notRead)
+  -- no beam: the number tried is the length of the near part, 0 if nothing was heard
+  pub tried : (n : ℕ) → choosing s m o ≡ gives (noBeam n) → n ≡ length (nearPart (heard s) s m)
+  pub silent : (a : Chosen) → choosing s m o ≡ gives a → ((c : ℕ) → Passes (heard s) c → ⊥) → a ≡ noBeam 0
+
+abbrev pub TriedIsPlace : Type 0
+TriedIsPlace = (s : Sweep) (m : ℤ) (o : List ℕ) → AnswerRule s m o
+
+-- demand 2: an accepted choice ends in no beam exactly when every heard channel at most the margin below the strongest was read and none suits
+abbrev pub NoBeamExactly : Type 0
+NoBeamExactly = (s : Sweep) (m : ℤ) (o : List ℕ) (a : Chosen) → choosing s m o ≡ gives a
+    → ((n : ℕ) × (a ≡ noBeam n)) ↔ ((c : ℕ) → Passes (heard s) c → WithinMargin (heard s) s m c → Unsuitable o c)
+
+-- bytes of channels not heard change no accepted answer
+abbrev pub UnheardBytes : Type 0
+UnheardBytes = (s : Sweep) (m : ℤ) (o p : List ℕ) (a : Chosen)
+    → ((c : ℕ) → Passes (heard s) c → outcomeAt o c ≡ outcomeAt p c) → outcomesFine p ≡ true
+    → choosing s m o ≡ gives a → choosing s m p ≡ gives a
+
+-- what is told of an answer fixes its case and values
+abbrev pub AnswersDiffer : Type 0
+AnswersDiffer = OneToOne toldChoice
