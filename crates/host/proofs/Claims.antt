@@ -58,7 +58,7 @@ hundredths-back (hundredths.Value h) = refl
 hundredths-back (hundredths.Refused r) = by-number _ _ r
 
 shownFrom : FloatAnswer → Shown
-shownFrom x = byNumber (shown.Value (x .float)) shown.Refused (x .refusal)
+shownFrom x = byNumber (shown.Value (x .value)) shown.Refused (x .refusal)
 
 shown-back : (a : Shown) → shownFrom (floatAnswer (toldShown a)) ≡ a
 unfolding shownFrom byNumber

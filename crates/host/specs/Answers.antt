@@ -29,8 +29,8 @@ hundredthsAnswer (refused n) = record { refusal = n; hundredths = pos 0 }
 
 -- a float
 abbrev pub floatAnswer : Told Float → FloatAnswer
-floatAnswer (gives x) = record { refusal = acceptedNumber; float = x }
-floatAnswer (refused n) = record { refusal = n; float = zeroFloat }
+floatAnswer (gives x) = record { refusal = acceptedNumber; value = x }
+floatAnswer (refused n) = record { refusal = n; value = zeroFloat }
 
 -- the codes to send. None is below 0 (`SendsWithinLimits` of the power steps), so the size of each is the code
 abbrev pub sentAnswer : Told ToSend → SentAnswer

@@ -29,7 +29,7 @@ pub struct HundredthsAnswer {
 #[repr(C)]
 pub struct FloatAnswer {
     pub refusal: u32,
-    pub float: f32,
+    pub value: f32,
 }
 
 // The codes to send.
@@ -83,13 +83,13 @@ fn float_answer(a: Shown) -> FloatAnswer
     ensures { λ r. ⌜ r ≡ floatAnswer (toldShown a) ⌝ }
 {
     match a {
-        Shown::Value(float) => FloatAnswer {
+        Shown::Value(value) => FloatAnswer {
             refusal: ACCEPTED,
-            float,
+            value,
         },
         Shown::Refused(why) => FloatAnswer {
             refusal: refusal::number(why),
-            float: 0.0,
+            value: 0.0,
         },
     }
 }
@@ -184,9 +184,9 @@ pub extern "C" fn royukezan_quality_to_float(h: i32) -> FloatAnswer
 pub extern "C" fn royukezan_power_start(r: &mut PowerRecord, p: PowerParameters) -> u32
     ensures { λ n. ⌜ (n ≡ refusalNumber (started p .answer)) × (now (r .exit) ≡ started p .power) ⌝ }
 {
-    let s = start(p);
-    *r = s.power;
-    s.refusal
+    let started = start(p);
+    *r = started.power;
+    started.refusal
 }
 
 // A step with the decoded codes, on the record that is lent: it is advanced there; refused, it is left as it was. Refusals 9, 7, 1.
@@ -200,9 +200,9 @@ pub extern "C" fn royukezan_power_step_decoded(
 ) -> SentAnswer
     ensures { λ a. ⌜ (a ≡ sentAnswer (stepped p (now (r .entry)) (Codes pan par) sqi .answer)) × (now (r .exit) ≡ stepped p (now (r .entry)) (Codes pan par) sqi .power) ⌝ }
 {
-    let s = step_decoded(*r, p, pan, par, sqi);
-    *r = s.power;
-    s.answer
+    let decoded = step_decoded(*r, p, pan, par, sqi);
+    *r = decoded.power;
+    decoded.answer
 }
 
 // The same where the message was not decoded.
@@ -214,9 +214,9 @@ pub extern "C" fn royukezan_power_step_failed(
 ) -> SentAnswer
     ensures { λ a. ⌜ (a ≡ sentAnswer (stepped p (now (r .entry)) Failed sqi .answer)) × (now (r .exit) ≡ stepped p (now (r .entry)) Failed sqi .power) ⌝ }
 {
-    let s = step_failed(*r, p, sqi);
-    *r = s.power;
-    s.answer
+    let failed = step_failed(*r, p, sqi);
+    *r = failed.power;
+    failed.answer
 }
 
 // Nothing to run: its contract is what is claimed of the border beyond the calls, so that the check asks for its proof.
