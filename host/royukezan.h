@@ -6,7 +6,8 @@
  * Answers. The first number of an answer is the refusal number, 0 for accepted; the other numbers are the values, 0 when refused.
  *
  * What the host owes, since no proof reaches it:
- * - a pointer to a record is not null, is aligned for uint32_t and points to a whole record that may be written;
+ * - a pointer to a record is not null, is aligned for uint32_t and points to a whole record that may be written, by a refused step too,
+ *   which stores the same numbers again;
  * - while a call runs nobody else reads or writes that record; calls on different records may run side by side;
  * - the floating-point environment is the default one: rounding to nearest, exceptions masked, and neither flush-to-zero nor
  *   denormals-are-zero. With gcc, linking with -ffast-math can turn the last two on;

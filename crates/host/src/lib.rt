@@ -55,6 +55,7 @@ struct Sent {
 // The number of an accepted call.
 const ACCEPTED: u32 = 0;
 
+// Each answer of the crates below, as numbers.
 fn refusal_number(a: Outcome) -> u32
     ensures { λ n. ⌜ n ≡ refusalNumber (toldOutcome a) ⌝ }
 {
@@ -111,6 +112,7 @@ fn sent_answer(a: Answer) -> SentAnswer
     }
 }
 
+// The start and the two steps by value: what the lent calls store and answer.
 fn start(p: PowerParameters) -> Started
     ensures { λ s. ⌜ (s .power ≡ started p .power) × (s .refusal ≡ refusalNumber (started p .answer)) ⌝ }
 {
