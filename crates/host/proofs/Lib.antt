@@ -1,0 +1,3 @@
+-- The laws of the border.
+pub mod Claims
+pub mod Lent
