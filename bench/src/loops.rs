@@ -119,7 +119,7 @@ impl SweepRun {
                 let answer = black_box(&mut self.sweep).file((x >> 16) as u16, anything(x));
                 self.mix(filed_number(answer));
             }
-            2 => self.sweep_on(heard(x)),
+            3 => self.sweep_on(heard(x)),
             _ => {
                 let mut damaged = self.sweep.clone();
                 damaged.heard[0] = 1;
@@ -129,7 +129,7 @@ impl SweepRun {
     }
 }
 
-/// Sweeps. Kind 0: as they should go; 1: damaged calls; 2: as they should go, every channel heard; any other: a damaged record.
+/// Sweeps. Kind 0: as they should go; 1: damaged calls; 3: as they should go, every channel heard; any other: a damaged record.
 #[inline(never)]
 pub fn bench_sweep(kind: u32, ticks: u32, seed: u32) -> u32 {
     let mut run = SweepRun::begun(seed);
@@ -145,29 +145,34 @@ pub fn bench_sweep(kind: u32, ticks: u32, seed: u32) -> u32 {
 pub fn bench_choice(kind: u32, ticks: u32, seed: u32) -> u32 {
     let mut run = SweepRun::begun(seed);
     for _ in FIRST_SWEPT..=LAST_SWEPT {
-        run.tick(2);
+        run.tick(3);
     }
-    let SweepRun { mut sweep, mut x, .. } = run;
-    let fill = match kind {
-        1 => 2,
-        3 => 6,
-        _ => 0,
-    };
-    let outcomes = [fill; CHANNELS];
-    if kind > 3 {
-        sweep.heard[0] = 1;
-    }
+    let SweepRun { sweep, mut x, .. } = run;
     let mut sum = 0;
     for _ in 0..ticks {
         x = drawn(x);
-        let margin = match kind {
-            1 => 6_000,
-            2 => x as i32,
-            _ => (x % 6_001) as i32,
+        let margin = (x % 6_001) as i32;
+        let answer = match kind {
+            0 => chosen(&sweep, margin, 0),
+            1 => chosen(&sweep, 6_000, 2),
+            2 => chosen(&sweep, (x >> 1) as i32, 0),
+            3 => chosen(&sweep, margin, 6),
+            _ => {
+                let mut damaged = sweep.clone();
+                damaged.heard[0] = 1;
+                chosen(&damaged, margin, 0)
+            }
         };
-        sum = mixed(sum, choice_number(choose(black_box(&sweep), margin, black_box(&outcomes))));
+        sum = mixed(sum, answer);
     }
     sum
+}
+
+/// The choice with all outcome bytes alike.
+#[inline(always)]
+fn chosen(sweep: &Sweep, margin: i32, fill: u8) -> u32 {
+    let outcomes = [fill; CHANNELS];
+    choice_number(choose(black_box(sweep), margin, black_box(&outcomes)))
 }
 
 /// One of the seven channels of the watch.

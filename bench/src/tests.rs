@@ -486,7 +486,7 @@ fn the_first_ticks_of_the_loops() {
     let mixed = |answers: &[u32]| answers.iter().fold(0_u32, |sum, answer| sum.wrapping_mul(31).wrapping_add(*answer));
     assert_eq!(bench_sweep(0, 0, 5), 0);
     assert_eq!(bench_sweep(0, 2, 5), mixed(&[1_002, 100, 1_003, 100]));
-    assert_eq!(bench_sweep(3, 2, 5), mixed(&[9, 9]));
+    assert_eq!(bench_sweep(2, 2, 5), mixed(&[9, 9]));
     assert_eq!(bench_choice(3, 2, 5), mixed(&[8, 8]));
     assert_eq!(bench_choice(4, 2, 5), mixed(&[9, 9]));
     let warm = bench_watch(0, 0, 5);
@@ -499,9 +499,9 @@ fn the_first_ticks_of_the_loops() {
 
 #[test]
 fn a_whole_sweep_ends_with_done_and_its_counts() {
-    // Kind 2 hears every channel: 1,085 channels filed, then done, the counts and a fresh sweep.
+    // Kind 3 hears every channel: 1,085 channels filed, then done, the counts and a fresh sweep.
     let mut answers: Vec<u32> = (2..=1_086).flat_map(|channel| [1_000 + channel, 100]).collect();
     answers.extend([101, 1_085 * 2_000 + 1_085 + 10_000, 1_002, 100]);
     let sum = answers.iter().fold(0_u32, |sum, answer| sum.wrapping_mul(31).wrapping_add(*answer));
-    assert_eq!(bench_sweep(2, 1_087, 99), sum);
+    assert_eq!(bench_sweep(3, 1_087, 99), sum);
 }
