@@ -54,7 +54,11 @@ fn compare_hundredths(compared: &mut Compared) {
         let level = hundredths_answer(border::level_to_hundredths(x));
         compared.same(|| format!("the level with the bits {bits:08x}"), ours::royukezan_level_to_hundredths(x), level);
         let quality = hundredths_answer(border::quality_to_hundredths(x));
-        compared.same(|| format!("the quality with the bits {bits:08x}"), ours::royukezan_quality_to_hundredths(x), quality);
+        compared.same(
+            || format!("the quality with the bits {bits:08x}"),
+            ours::royukezan_quality_to_hundredths(x),
+            quality,
+        );
     }
 }
 
@@ -102,7 +106,11 @@ fn record(dice: &Dice) -> PowerRecord {
         panlast: code(dice, 60),
         parsave: code(dice, 60),
         panbasic: code(dice, 60),
-        increase: if dice.once_in(20) { dice.one_of(&[increase + 1, 24_200, 23_999, u32::MAX, dice.word()]) } else { increase },
+        increase: if dice.once_in(20) {
+            dice.one_of(&[increase + 1, 24_200, 23_999, u32::MAX, dice.word()])
+        } else {
+            increase
+        },
     }
 }
 
@@ -126,8 +134,15 @@ fn compare_power(compared: &mut Compared) {
             let sqi = dice.from_to(-3_050, 4_050);
             let (pan, par) = (code(&dice, 63), code(&dice, 63));
             if dice.once_in(3) {
-                let answers = (ours::royukezan_power_step_failed(&mut ours, p, sqi), sent_answer(border::step_failed(&mut plain, &p, sqi)));
-                compared.same(|| format!("the failed step of {before:?} with {p:?}, SQI {sqi}"), (answers.0, ours), (answers.1, plain));
+                let answers = (
+                    ours::royukezan_power_step_failed(&mut ours, p, sqi),
+                    sent_answer(border::step_failed(&mut plain, &p, sqi)),
+                );
+                compared.same(
+                    || format!("the failed step of {before:?} with {p:?}, SQI {sqi}"),
+                    (answers.0, ours),
+                    (answers.1, plain),
+                );
             } else {
                 let answers = (
                     ours::royukezan_power_step_decoded(&mut ours, p, pan, par, sqi),
@@ -142,7 +157,7 @@ fn compare_power(compared: &mut Compared) {
 
 type Loop = fn(u32, u32, u32) -> u32;
 
-/// The checksums of a loop, of every kind, over some seeds and numbers of ticks. `most` bounds the ticks of kind 1.
+/// The checksums of a loop, of every kind, over some seeds and numbers of ticks.
 fn compare_loop(compared: &mut Compared, name: &str, ours: Loop, plain: Loop, most_of_kind_1: u32) {
     let ticks = (0..=20).chain([50, 100, 211, 1_084, 1_085, 1_086, 1_087, 1_088, 2_172, 2_173, 5_000]);
     let seeds = [0, 1, 2, 20_261_116, 0x8000_0000, u32::MAX];

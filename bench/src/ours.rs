@@ -1,5 +1,5 @@
-//! The functions of the proved archives, as a Rust program declares them. Nothing checks these lines against the Rattle source: the
-//! comparison of every answer does.
+//! The functions of the proved archives, as a Rust program declares them. Nothing checks these lines against the Rattle
+//! source but the comparison of the answers.
 
 use crate::plain::{PowerParameters, PowerRecord};
 
@@ -35,11 +35,17 @@ unsafe extern "C" {
     pub safe fn royukezan_level_to_float(h: i32) -> FloatAnswer;
     pub safe fn royukezan_quality_to_float(h: i32) -> FloatAnswer;
     pub safe fn royukezan_power_start(r: &mut PowerRecord, p: PowerParameters) -> u32;
-    pub safe fn royukezan_power_step_decoded(r: &mut PowerRecord, p: PowerParameters, pan: u32, par: u32, sqi: i32) -> SentAnswer;
+    pub safe fn royukezan_power_step_decoded(
+        r: &mut PowerRecord,
+        p: PowerParameters,
+        pan: u32,
+        par: u32,
+        sqi: i32,
+    ) -> SentAnswer;
     pub safe fn royukezan_power_step_failed(r: &mut PowerRecord, p: PowerParameters, sqi: i32) -> SentAnswer;
 }
 
-// libbench_loops.a: the loops over sweep, choice and watch, whose records are handed over by value and cannot cross the border.
+// libbench_loops.a: loops over sweep, choice and watch, whose calls take enums and so do not cross the border.
 unsafe extern "C" {
     pub safe fn bench_sweep(kind: u32, ticks: u32, seed: u32) -> u32;
     pub safe fn bench_choice(kind: u32, ticks: u32, seed: u32) -> u32;

@@ -1,6 +1,6 @@
-//! Readings, sweep, choice, watch and power steps in plain Rust, written for speed: what the proved library is timed against.
-//! The rules, the tests of a record at each call and the order of the refusals are those of document 01. Records are lent and
-//! changed in place; a refused call leaves its record as it was.
+//! Readings, sweep, choice, watch and power steps in plain Rust, written for speed: what the proved library is timed
+//! against. The rules, the test of the record at each call and the order of the refusals are those of document 01; the
+//! records have the same fields. They are lent and changed in place; a refused call leaves its record as it was.
 
 /// Why a call is refused: document 01's numbers.
 #[derive(Clone, Copy, Debug, PartialEq, Eq)]
@@ -32,8 +32,8 @@ pub const QUALITY_LOWEST: i32 = -3_000;
 pub const QUALITY_HIGHEST: i32 = 4_000;
 
 /// Hundredths of a float in the range, to the nearest, an exact half to the lower number.
-/// A float times 100 is exact as a double, and next to a half it is a multiple of 2^-31: so 2^-32 less moves every exact half below
-/// the half and nothing else. The sum with 1.5 x 2^52 rounds to a whole number, which its lowest bits hold.
+/// A float times 100 is exact as a double, and next to a half it is a multiple of 2^-29: so 2^-32 less takes an exact
+/// half below the half, and nothing else. The sum with 1.5 x 2^52 is rounded to a whole number, held by its low bits.
 #[inline]
 fn nearest_hundredths(x: f32) -> i32 {
     const BELOW: f64 = 1.0 / (1_u64 << 32) as f64;
@@ -101,9 +101,13 @@ pub const LAST_SWEPT: u16 = 1_086;
 const WORD_BITS: usize = 64;
 const WORDS: usize = CHANNELS / WORD_BITS;
 
-/// The bits of the channels that no sweep visits, in the first word and in the last.
-const NEVER_FIRST: u64 = 0b11;
-const NEVER_LAST: u64 = 1 << 63;
+/// The map of the channels that no sweep visits: 0, 1 and 1,087.
+const NEVER_SWEPT: [u64; WORDS] = {
+    let mut map = [0; WORDS];
+    map[0] = 0b11;
+    map[WORDS - 1] = 1 << 63;
+    map
+};
 
 /// The sweep record: a level in hundredths for each channel, and the maps of visited and heard channels.
 #[derive(Clone, Debug, PartialEq, Eq)]
@@ -113,7 +117,7 @@ pub struct Sweep {
     pub heard: [u64; WORDS],
 }
 
-/// The 64 levels of a word, two bytes each. One outside the range of two bytes becomes its nearest end, outside that of levels too.
+/// The 64 levels of a word, two bytes each. One that does not fit becomes the nearest that does, outside the range too.
 #[inline(always)]
 fn narrow(levels: &[i32; WORD_BITS]) -> [i16; WORD_BITS] {
     levels.map(|level| level.clamp(i32::from(i16::MIN), i32::from(i16::MAX)) as i16)
@@ -152,12 +156,12 @@ impl Sweep {
     }
 
     fn is_well_formed(&self) -> bool {
-        if self.visited[0] & NEVER_FIRST != 0 || self.visited[WORDS - 1] & NEVER_LAST != 0 {
+        if self.visited[0] & NEVER_SWEPT[0] != 0 || self.visited[WORDS - 1] & NEVER_SWEPT[WORDS - 1] != 0 {
             return false;
         }
         let (levels, _) = self.levels.as_chunks::<WORD_BITS>();
-        let words = levels.iter().zip(&self.visited).zip(&self.heard);
-        words.into_iter().all(|((levels, visited), &heard)| heard & !visited == 0 && levels_fine(levels, heard))
+        let mut words = levels.iter().zip(&self.visited).zip(&self.heard);
+        words.all(|((levels, visited), &heard)| heard & !visited == 0 && levels_fine(levels, heard))
     }
 
     /// Refusal 9 unless the record is well formed.
@@ -190,11 +194,10 @@ impl Sweep {
 
     /// The lowest swept channel that is not visited.
     fn lowest_not_visited(&self) -> Option<u16> {
-        let mut visited = self.visited;
-        visited[0] |= NEVER_FIRST;
-        visited[WORDS - 1] |= NEVER_LAST;
-        let word = visited.iter().position(|&word| word != u64::MAX)?;
-        Some((word * WORD_BITS) as u16 + visited[word].trailing_ones() as u16)
+        let mut words = self.visited.iter().zip(&NEVER_SWEPT).map(|(visited, never)| !(visited | never));
+        let word = words.position(|open| open != 0)?;
+        let open = !(self.visited[word] | NEVER_SWEPT[word]);
+        Some((word * WORD_BITS) as u16 + open.trailing_zeros() as u16)
     }
 
     /// The next channel, or None when done. Refusal 9.
@@ -403,7 +406,8 @@ impl Track {
         }
         let lowest = &LOWEST[self.count];
         // Its sign is set once a level lies outside.
-        let outside = |any: i32, (&level, &lowest): (&i32, &i32)| any | 0_i32.wrapping_sub(level) | level.wrapping_sub(lowest);
+        let outside =
+            |any: i32, (&level, &lowest): (&i32, &i32)| any | 0_i32.wrapping_sub(level) | level.wrapping_sub(lowest);
         self.levels.iter().zip(lowest).fold(0, outside) >= 0
     }
 
@@ -465,8 +469,8 @@ impl Watch {
     /// The place of a channel under watch. Refusal 6.
     #[inline(always)]
     fn place(&self, channel: u16) -> Result<usize, Refusal> {
-        let used = self.tracks.iter().take(self.watched);
-        used.into_iter().position(|track| track.channel == channel).ok_or(Refusal::NotWatched)
+        let mut used = self.tracks.iter().take(self.watched);
+        used.position(|track| track.channel == channel).ok_or(Refusal::NotWatched)
     }
 
     /// That channel alone, without levels. Refusals 9, 2.
@@ -484,9 +488,7 @@ impl Watch {
     fn list_is_fine(&self, list: &[u16]) -> bool {
         let in_range = list.len() <= LIST_LIMIT && list.iter().all(|&channel| channel <= HIGHEST_CHANNEL);
         let repeats = |i: usize| list[..i].contains(&list[i]);
-        in_range
-            && !(0..list.len()).any(repeats)
-            && (self.watched == 0 || !list.contains(&self.tracks[0].channel))
+        in_range && !(0..list.len()).any(repeats) && (self.watched == 0 || !list.contains(&self.tracks[0].channel))
     }
 
     /// Replaces the neighbours; a channel watched before and after keeps its levels. Refusals 9, 5, 6.

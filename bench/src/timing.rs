@@ -18,6 +18,15 @@ const SWEEP_TICKS: u32 = 1_086;
 
 const SEED: u32 = 20_261_116;
 
+/// What stands under the table.
+const NOTES: &str = "\
+Per call, the best of ROUNDS rounds, the two sides in turn after one round that does not count.
+No buffer is cleared first: the inputs lie ready and are the same for both sides, caches are warm; records are made
+fresh before each timed run. Conversions and power steps are calls on both sides: into the archive, and of plain
+functions that are not inlined. Sweep, choice and watch are loops on both sides, whose calls may be inlined as in an
+application; the time of a loop of no ticks is taken off, so that making the record does not count. Both sides are
+built for any x86-64.";
+
 struct Row {
     call: &'static str,
     ours: f64,
@@ -132,7 +141,14 @@ fn loop_rows() -> Vec<Row> {
     let choice: Loop = |kind, ticks, seed| ours::bench_choice(kind, ticks, seed);
     let watch: Loop = |kind, ticks, seed| ours::bench_watch(kind, ticks, seed);
     vec![
-        loop_row("full sweep: 1,085 times next and file, then counts", sweep, loops::bench_sweep, 0, 5 * SWEEP_TICKS, SWEEP_TICKS),
+        loop_row(
+            "full sweep: 1,085 times next and file, then counts",
+            sweep,
+            loops::bench_sweep,
+            0,
+            5 * SWEEP_TICKS,
+            SWEEP_TICKS,
+        ),
         loop_row("choice, usual: nothing read yet", choice, loops::bench_choice, 0, 4_000, 1),
         loop_row("choice, worst: all read, none suitable", choice, loops::bench_choice, 1, 1_000, 1),
         loop_row("watch: file", watch, loops::bench_watch, 0, 40_000, 1),
@@ -169,9 +185,5 @@ pub fn time_all() {
         println!("| {call} | {} | {} | {:.2} |", shown(ours), shown(plain), ours / plain);
     }
     println!();
-    println!("Per call, the best of {ROUNDS} rounds, the two sides in turn after one round that does not count.");
-    println!("No buffer is cleared first: inputs lie ready and are the same for both sides, caches are warm; records are made fresh");
-    println!("before each timed run. Conversions and power steps are calls on both sides: into the archive, and plain functions that");
-    println!("are not inlined. Sweep, choice and watch are loops on both sides, whose calls may be inlined as in an application; a");
-    println!("loop of no ticks is taken off, so that what prepares a record does not count. Both sides are built for plain x86-64.");
+    println!("{}", NOTES.replace("ROUNDS", &ROUNDS.to_string()));
 }
