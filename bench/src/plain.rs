@@ -328,7 +328,8 @@ fn first_open(sweep: &Sweep, margin: i32, outcomes: &[u8; CHANNELS]) -> Choice {
             (best, at) = (level, word);
         }
     }
-    let lowest_near = (i32::from(strongest) - margin).max(LEVEL_LOWEST) as i16;
+    // At most 6,000 below a level, which is above NO_LEVEL.
+    let lowest_near = strongest - margin as i16;
     if best < lowest_near {
         return Choice::NoBeam { tried: count(levels.as_flattened(), |level| level >= lowest_near) };
     }

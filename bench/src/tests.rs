@@ -290,6 +290,21 @@ fn checked_examples_of_the_watch() {
     assert_eq!(watch.verdict(299), Ok(Verdict::MoveTo(20)));
 }
 
+#[test]
+fn equal_sums_go_to_the_lowest_channel() {
+    for list in [[20, 30, 40], [40, 30, 20], [30, 20, 40]] {
+        let mut watch = watching(10, &list);
+        for (channel, level) in [(10, -10_000), (20, -9_001), (30, -9_000), (40, -9_000)] {
+            for _ in 0..15 {
+                watch.file(channel, heard(level)).unwrap();
+            }
+        }
+        assert_eq!(watch.verdict(0), Ok(Verdict::MoveTo(30)));
+        watch.move_to(40).unwrap();
+        assert_eq!(watch.verdict(0), Ok(Verdict::Stay));
+    }
+}
+
 /// The rule of a well-formed watch record.
 fn watch_is_well_formed(w: &Watch) -> bool {
     let unused = Track { channel: 0, count: 0, levels: [0; DEPTH] };
