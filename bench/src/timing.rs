@@ -24,8 +24,10 @@ Per call, the best of ROUNDS rounds over all rows, the two sides in turn, after 
 No buffer is cleared first: the inputs lie ready and are the same for both sides, caches are warm; records are made
 fresh before each timed run. Conversions and power steps are calls on both sides: into the archive, and of plain
 functions that are not inlined. Sweep, choice and watch are loops on both sides, whose calls may be inlined as in an
-application; the time of a loop of no ticks is taken off, so that making the record does not count. Both sides are
-built for any x86-64.";
+application; the time of a loop of no ticks is taken off, so that making the record does not count. Drawing the burst
+and the checksum count on both sides, and on ours the copies of a record that is handed over by value. A run of the
+worst choice has 5 calls on our side and 2,000 on the other, all with the same work. Both sides are built for any
+x86-64.";
 
 /// Something that is timed, and its best time so far in ns.
 struct Run {
