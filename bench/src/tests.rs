@@ -1,0 +1,548 @@
+//! Tests of the plain Rust and its loops: document 01's checked examples, random calls compared with the second
+//! program, and damaged records compared with a plain reading of the rules.
+
+mod dice;
+mod floats;
+mod loops;
+mod plain;
+
+use dice::Dice;
+use loops::{bench_choice, bench_sweep, bench_watch};
+use plain::{
+    choose, level_to_float, level_to_hundredths, quality_to_float, quality_to_hundredths, Burst, Choice, Levels,
+    PowerParameters, PowerRecord, Refusal, Sent, Sweep, Track, Verdict, Watch, CHANNELS, DEPTH,
+};
+
+/// A level of so many hundredths, heard at 10 dB.
+fn heard(hundredths: i32) -> Burst {
+    Burst::Heard { level: hundredths as f32 / 100.0, quality: 10.0 }
+}
+
+fn number<T>(answer: Result<T, Refusal>) -> u32 {
+    answer.map_or_else(|refusal| refusal as u32, |_| 0)
+}
+
+/// The same answer of the second program.
+fn second_number<T>(answer: Result<T, second::refusal::Refusal>) -> u32 {
+    answer.map_or_else(|refusal| u32::from(refusal.number()), |_| 0)
+}
+
+fn second_burst(burst: Burst) -> second::reading::Burst {
+    match burst {
+        Burst::Heard { level, quality } => {
+            second::reading::Burst::Heard { level: level.to_bits(), quality: quality.to_bits() }
+        }
+        Burst::Missed => second::reading::Burst::Missed,
+    }
+}
+
+// Readings.
+
+#[test]
+fn checked_examples_of_readings() {
+    assert_eq!(level_to_hundredths(-100.125), Ok(-10_013));
+    assert_eq!(quality_to_hundredths(0.125), Ok(12));
+    assert_eq!(quality_to_hundredths(0.375), Ok(37));
+    assert_eq!(level_to_hundredths(-150.0), Ok(-15_000));
+    assert_eq!(level_to_hundredths((-150.0_f32).next_down()), Err(Refusal::ReadingOutOfRange));
+    assert_eq!(level_to_hundredths(f32::NAN), Err(Refusal::ReadingOutOfRange));
+    assert_eq!(level_to_hundredths(-0.0), Ok(0));
+}
+
+#[test]
+fn conversion_agrees_with_exact_whole_numbers() {
+    let dice = Dice::new(1);
+    let random = (0..1_000_000).map(|_| dice.word());
+    conversion_agrees_on(floats::turning_bits().into_iter().chain(random));
+}
+
+#[test]
+#[ignore = "takes minutes"]
+fn conversion_agrees_with_exact_whole_numbers_on_every_float() {
+    conversion_agrees_on(0..=u32::MAX);
+}
+
+/// The plain conversions give what the second program works out in whole numbers.
+fn conversion_agrees_on(all_bits: impl Iterator<Item = u32>) {
+    for bits in all_bits {
+        let x = f32::from_bits(bits);
+        let level = second::reading::level_hundredths(bits);
+        let quality = second::reading::quality_hundredths(bits);
+        assert_eq!(
+            level_to_hundredths(x).map_err(|why| why as u8),
+            level.map_err(|why| why.number()),
+            "level {bits:08x}"
+        );
+        assert_eq!(
+            quality_to_hundredths(x).map_err(|why| why as u8),
+            quality.map_err(|why| why.number()),
+            "quality {bits:08x}"
+        );
+    }
+}
+
+#[test]
+fn every_hundredth_is_shown_and_read_back() {
+    for h in -20_000..=10_000 {
+        let level = level_to_float(h).map(f32::to_bits).map_err(|why| why as u8);
+        let quality = quality_to_float(h).map(f32::to_bits).map_err(|why| why as u8);
+        assert_eq!(level, second::reading::shown_level(h).map_err(|why| why.number()), "level {h}");
+        assert_eq!(quality, second::reading::shown_quality(h).map_err(|why| why.number()), "quality {h}");
+        if let Ok(x) = level_to_float(h) {
+            assert_eq!(level_to_hundredths(x), Ok(h));
+        }
+        if let Ok(x) = quality_to_float(h) {
+            assert_eq!(quality_to_hundredths(x), Ok(h));
+        }
+    }
+}
+
+/// A burst that is mostly in range.
+fn some_burst(dice: &Dice) -> Burst {
+    match dice.below(8) {
+        0 => Burst::Missed,
+        1 => Burst::Heard { level: f32::from_bits(dice.word()), quality: f32::from_bits(dice.word()) },
+        2 => heard(dice.from_to(-15_010, 10)),
+        _ => heard(-100 * dice.from_to(60, 120)),
+    }
+}
+
+// The band sweep.
+
+/// The rule of a well-formed sweep, as document 01 states it.
+fn sweep_is_well_formed(s: &Sweep) -> bool {
+    (0..CHANNELS).all(|c| {
+        let visited = s.visited[c / 64] >> (c % 64) & 1 == 1;
+        let heard = s.heard[c / 64] >> (c % 64) & 1 == 1;
+        let inside = (2..=1_086).contains(&c);
+        let level = s.levels[c];
+        (visited || !heard) && (inside || !visited) && (heard || level == 0) && (-15_000..=0).contains(&level)
+    })
+}
+
+/// A sweep of some channels.
+fn some_sweep(dice: &Dice, visited_in_8: u32, heard_in_8: u32) -> Sweep {
+    let mut sweep = Sweep::fresh();
+    for channel in 2..=1_086 {
+        if dice.below(8) < visited_in_8 {
+            let burst = if dice.below(8) < heard_in_8 { heard(dice.from_to(-15_000, 0)) } else { Burst::Missed };
+            assert_eq!(sweep.file(channel, burst), Ok(()));
+        }
+    }
+    sweep
+}
+
+#[test]
+fn damaged_sweeps_are_refused_and_stay() {
+    let dice = Dice::new(2);
+    let levels =
+        [i32::MIN, i32::MAX, -15_001, -15_000, -1, 0, 1, 32_767, 32_768, 65_536, -32_768, -32_769, -65_536, -80_536];
+    let (mut refused, mut accepted) = (0, 0);
+    for round in 0..40 {
+        let sweep = some_sweep(&dice, [0, 1, 4, 7, 8][round % 5], [8, 7, 4, 1][round % 4]);
+        for _ in 0..200 {
+            let mut damaged = sweep.clone();
+            let channel = dice.one_of(&[0, 1, 2, 63, 64, 1_085, 1_086, 1_087, dice.below(1_088) as usize]);
+            match dice.below(3) {
+                0 => damaged.visited[channel / 64] ^= 1 << (channel % 64),
+                1 => damaged.heard[channel / 64] ^= 1 << (channel % 64),
+                _ => damaged.levels[channel] = dice.one_of(&levels),
+            }
+            let well_formed = sweep_is_well_formed(&damaged);
+            let before = damaged.clone();
+            assert_eq!(damaged.check().is_ok(), well_formed);
+            assert_eq!(damaged.next().is_ok(), well_formed);
+            assert_eq!(damaged.counts().is_ok(), well_formed);
+            if !well_formed {
+                assert_eq!(damaged.file(0, Burst::Missed), Err(Refusal::RecordNotWellFormed));
+                assert_eq!(choose(&damaged, -1, &[9]), Err(Refusal::RecordNotWellFormed));
+                refused += 1;
+            } else {
+                assert_eq!(damaged.file(0, Burst::Missed), Err(Refusal::ChannelOutOfRange));
+                assert_eq!(choose(&damaged, -1, &[9]), Err(Refusal::OutcomesFaulty));
+                accepted += 1;
+            }
+            assert_eq!(damaged, before);
+        }
+    }
+    assert!(refused > 1_000 && accepted > 1_000, "{refused} refused, {accepted} accepted");
+}
+
+#[test]
+fn sweeps_agree_with_the_second_program() {
+    let dice = Dice::new(3);
+    for _ in 0..4 {
+        let mut plain = Sweep::fresh();
+        let mut second = second::sweep::Sweep::default();
+        while !second.finished() {
+            let next = second.next().unwrap_or(0);
+            assert_eq!(plain.next(), Ok(second.next()));
+            let channel = dice.one_of(&[next, next, 3, dice.below(1_090) as u16, dice.word() as u16]);
+            let burst = some_burst(&dice);
+            let before = plain.clone();
+            let answer = number(plain.file(channel, burst));
+            assert_eq!(answer, second_number(second.file(channel, second_burst(burst))));
+            assert!(answer == 0 || plain == before);
+            assert_eq!(plain.counts(), Ok((second.visited_count() as u32, second.heard_count() as u32)));
+        }
+        assert_eq!(plain.next(), Ok(None));
+        let heard = (0..CHANNELS).filter(|c| plain.heard[c / 64] >> (c % 64) & 1 == 1);
+        let levels: Vec<(u16, i32)> = heard.map(|c| (c as u16, plain.levels[c])).collect();
+        assert_eq!(levels, second.heard());
+    }
+}
+
+// The choice.
+
+fn swept(heard_levels: &[(u16, i32)]) -> Sweep {
+    let mut sweep = Sweep::fresh();
+    for &(channel, level) in heard_levels {
+        assert_eq!(sweep.file(channel, heard(level)), Ok(()));
+    }
+    while let Ok(Some(channel)) = sweep.next() {
+        assert_eq!(sweep.file(channel, Burst::Missed), Ok(()));
+    }
+    sweep
+}
+
+#[test]
+fn checked_examples_of_the_choice() {
+    let sweep = swept(&[(100, -9_000), (200, -9_000), (300, -9_300)]);
+    let mut outcomes = [0; CHANNELS];
+    assert_eq!(choose(&sweep, 300, &outcomes), Ok(Choice::Read { channel: 100, tried: 1 }));
+    outcomes[100] = 2;
+    outcomes[200] = 4;
+    outcomes[300] = 1;
+    assert_eq!(choose(&sweep, 300, &outcomes), Ok(Choice::Camp { channel: 300, tried: 3 }));
+    assert_eq!(choose(&sweep, 299, &outcomes), Ok(Choice::NoBeam { tried: 2 }));
+    assert_eq!(choose(&swept(&[]), 300, &outcomes), Ok(Choice::NoBeam { tried: 0 }));
+}
+
+#[test]
+fn refusals_of_the_choice_come_in_order() {
+    let unfinished = Sweep::fresh();
+    assert_eq!(choose(&unfinished, 6_001, &[0; CHANNELS - 1]), Err(Refusal::OutcomesFaulty));
+    assert_eq!(choose(&unfinished, 6_001, &[6; CHANNELS]), Err(Refusal::OutcomesFaulty));
+    assert_eq!(choose(&unfinished, 6_001, &[5; CHANNELS]), Err(Refusal::ParameterOutOfRange));
+    assert_eq!(choose(&unfinished, -1, &[5; CHANNELS]), Err(Refusal::ParameterOutOfRange));
+    assert_eq!(choose(&unfinished, 6_000, &[5; CHANNELS]), Err(Refusal::SweepUnfinished));
+}
+
+#[test]
+fn choices_agree_with_the_second_program() {
+    let dice = Dice::new(4);
+    for round in 0..60 {
+        let mut plain = Sweep::fresh();
+        let mut second = second::sweep::Sweep::default();
+        // Few levels make many equals.
+        let low = [-15_000, -9_100, -9_005, -1, -6_010][round % 5];
+        let high = low + [15_000, 300, 3, 1, 6_010][round % 5];
+        let heard_in_32 = [32, 31, 16, 1, 0, 4][round % 6];
+        for channel in 2..=1_086 {
+            let is_heard = dice.below(32) < heard_in_32;
+            let burst = if is_heard { heard(dice.from_to(low, high)) } else { Burst::Missed };
+            assert_eq!(number(plain.file(channel, burst)), second_number(second.file(channel, second_burst(burst))));
+        }
+        for _ in 0..40 {
+            // How many channels are open, 0 or 1.
+            let open_in = dice.one_of(&[1, 3, 20, 300, 2_000, 100_000]);
+            let mut outcomes = [0; CHANNELS];
+            for outcome in &mut outcomes {
+                *outcome = if dice.once_in(open_in) { dice.below(2) } else { 2 + dice.below(4) } as u8;
+            }
+            let margin = dice.one_of(&[0, 1, 2, 300, 6_000, dice.from_to(0, 6_000)]);
+            let told = match second::choice::choose(&second, margin, &outcomes) {
+                Ok(second::choice::Choice::Camp { channel, tried }) => Choice::Camp { channel, tried: tried as u32 },
+                Ok(second::choice::Choice::Read { channel, tried }) => Choice::Read { channel, tried: tried as u32 },
+                Ok(second::choice::Choice::NoBeam { tried }) => Choice::NoBeam { tried: tried as u32 },
+                Err(refusal) => panic!("refused: {refusal:?}"),
+            };
+            assert_eq!(choose(&plain, margin, &outcomes), Ok(told));
+        }
+    }
+}
+
+// The watch.
+
+fn watching(serving: u16, list: &[u16]) -> Watch {
+    let mut watch = Watch::fresh();
+    assert_eq!(watch.start(serving), Ok(()));
+    assert_eq!(watch.new_list(list), Ok(()));
+    watch
+}
+
+#[test]
+fn checked_examples_of_the_watch() {
+    let mut watch = watching(5, &[]);
+    watch.file(5, heard(-1)).unwrap();
+    watch.file(5, heard(-2)).unwrap();
+    assert_eq!(watch.ask(5), Ok(Levels { count: 2, mean: -2 }));
+
+    let mut watch = watching(10, &[20]);
+    for _ in 0..14 {
+        watch.file(10, heard(-10_000)).unwrap();
+        watch.file(20, heard(-9_700)).unwrap();
+    }
+    watch.file(20, heard(-9_700)).unwrap();
+    assert_eq!(watch.verdict(299), Ok(Verdict::Wait));
+    watch.file(10, heard(-10_000)).unwrap();
+    assert_eq!(watch.verdict(300), Ok(Verdict::Stay));
+    assert_eq!(watch.verdict(299), Ok(Verdict::MoveTo(20)));
+}
+
+#[test]
+fn equal_sums_go_to_the_lowest_channel() {
+    for list in [[20, 30, 40], [40, 30, 20], [30, 20, 40]] {
+        let mut watch = watching(10, &list);
+        for (channel, level) in [(10, -10_000), (20, -9_001), (30, -9_000), (40, -9_000)] {
+            for _ in 0..15 {
+                watch.file(channel, heard(level)).unwrap();
+            }
+        }
+        assert_eq!(watch.verdict(0), Ok(Verdict::MoveTo(30)));
+        watch.move_to(40).unwrap();
+        assert_eq!(watch.verdict(0), Ok(Verdict::Stay));
+    }
+}
+
+/// The rule of a well-formed watch record.
+fn watch_is_well_formed(w: &Watch) -> bool {
+    let unused = Track { channel: 0, count: 0, levels: [0; DEPTH] };
+    let fine = |t: &Track| {
+        let level_fine = |k: usize| if k < t.count { (-15_000..=0).contains(&t.levels[k]) } else { t.levels[k] == 0 };
+        t.channel <= 1_087 && t.count <= DEPTH && (0..DEPTH).all(level_fine)
+    };
+    w.watched <= 7
+        && w.tracks[..w.watched].iter().all(fine)
+        && w.tracks[w.watched..].iter().all(|t| *t == unused)
+        && (0..w.watched).all(|i| (0..i).all(|j| w.tracks[i].channel != w.tracks[j].channel))
+}
+
+#[test]
+fn damaged_watches_are_refused_and_stay() {
+    let dice = Dice::new(5);
+    let levels = [i32::MIN, i32::MAX, -15_001, -15_000, -1, 0, 1, 65_536];
+    let (mut refused, mut accepted) = (0, 0);
+    for round in 0..60 {
+        let list = [0, 200, 300, 400, 500, 1_087];
+        let mut watch = watching(100, &list[..round % 7]);
+        for _ in 0..[0, 5, 60, 300][round % 4] {
+            let _ = watch.file(dice.one_of(&[0, 100, 200, 300, 400, 500, 1_087]), some_burst(&dice));
+        }
+        if round % 9 == 8 {
+            watch = Watch::fresh();
+        }
+        for _ in 0..300 {
+            let mut damaged = watch.clone();
+            let track = &mut damaged.tracks[dice.below(7) as usize];
+            match dice.below(4) {
+                0 => damaged.watched = dice.one_of(&[0, 1, 2, 3, 4, 5, 6, 7, 8, usize::MAX]),
+                1 => {
+                    track.channel = dice.one_of(&[0, 1, 100, 200, 300, 400, 500, 1_087, 1_088, 65_535, 65_534, 65_530])
+                }
+                2 => track.count = dice.one_of(&[0, 1, 14, 15, 16, usize::MAX, 1 << 32]),
+                _ => track.levels[dice.below(15) as usize] = dice.one_of(&levels),
+            }
+            let well_formed = watch_is_well_formed(&damaged);
+            let before = damaged.clone();
+            assert_eq!(damaged.check().is_ok(), well_formed, "{damaged:?}");
+            if well_formed {
+                assert_eq!(damaged.start(1_088), Err(Refusal::ChannelOutOfRange));
+                assert_eq!(damaged.file(1_088, heard(1)), Err(Refusal::NotWatched));
+                accepted += 1;
+            } else {
+                let nine = Err(Refusal::RecordNotWellFormed);
+                assert_eq!(damaged.start(1_088), nine);
+                assert_eq!(damaged.new_list(&[1_088]), nine);
+                assert_eq!(damaged.move_to(1_088), nine);
+                assert_eq!(damaged.file(1_088, heard(1)), nine);
+                assert_eq!(number(damaged.ask(1_088)), 9);
+                assert_eq!(number(damaged.verdict(-1)), 9);
+                refused += 1;
+            }
+            assert_eq!(damaged, before);
+        }
+    }
+    assert!(refused > 1_000 && accepted > 1_000, "{refused} refused, {accepted} accepted");
+}
+
+#[test]
+fn watches_agree_with_the_second_program() {
+    let dice = Dice::new(6);
+    for _ in 0..20 {
+        let mut plain = Watch::fresh();
+        let mut second = second::watch::Watch::default();
+        for _ in 0..5_000 {
+            let channel = dice.one_of(&[0, 1, 2, 3, 4, 5, 6, 7, 8, 1_087, 1_088, 65_535]);
+            let before = plain.clone();
+            let answer = match dice.below(200) {
+                0 => {
+                    let answer = number(plain.start(channel));
+                    assert_eq!(answer, second_number(second.start(channel)));
+                    answer
+                }
+                1..=10 => {
+                    let length = dice.one_of(&[0, 1, 2, 3, 4, 5, 6, 6, 6, 7, 8]);
+                    let first = dice.below(9) as u16;
+                    let mut list: Vec<u16> = (first..first + length).map(|c| c % 9).collect();
+                    if dice.once_in(5) {
+                        list.push(channel);
+                    }
+                    let answer = number(plain.new_list(&list));
+                    assert_eq!(answer, second_number(second.new_list(&list)));
+                    answer
+                }
+                11..=15 => {
+                    let answer = number(plain.move_to(channel));
+                    assert_eq!(answer, second_number(second.move_to(channel)));
+                    answer
+                }
+                16..=35 => {
+                    let hysteresis = dice.one_of(&[0, 1, 10, 100, 6_000, 6_001, -1, i32::MIN]);
+                    let told = second.verdict(hysteresis).map(|verdict| match verdict {
+                        second::watch::Verdict::Wait => Verdict::Wait,
+                        second::watch::Verdict::Stay => Verdict::Stay,
+                        second::watch::Verdict::Move(channel) => Verdict::MoveTo(channel),
+                    });
+                    let answer = plain.verdict(hysteresis);
+                    assert_eq!(answer.map_err(|why| why as u8), told.map_err(|why| why.number()));
+                    number(answer)
+                }
+                _ => {
+                    let burst = some_burst(&dice);
+                    let answer = number(plain.file(channel, burst));
+                    assert_eq!(answer, second_number(second.file(channel, second_burst(burst))));
+                    answer
+                }
+            };
+            assert!(answer == 0 || plain == before);
+            let told = second.ask(channel).map(|(count, mean)| Levels { count, mean: mean as i32 });
+            assert_eq!(plain.ask(channel).map_err(|why| why as u8), told.map_err(|why| why.number()));
+            assert!(watch_is_well_formed(&plain));
+        }
+    }
+}
+
+// Power steps.
+
+fn parameters(codes: [u32; 7]) -> PowerParameters {
+    let [sqt, paninit, panmin, panmax, gainup, gaindn, mestep] = codes;
+    PowerParameters { sqt, paninit, panmin, panmax, gainup, gaindn, mestep }
+}
+
+#[test]
+fn checked_examples_of_power() {
+    let p = parameters([85, 20, 0, 60, 10, 10, 0]);
+    let (record, answer) = PowerRecord::start(&p);
+    assert_eq!(answer, Ok(()));
+    let par = |sqi| record.clone().step(&p, None, sqi).unwrap().par;
+    assert_eq!((par(750), par(950)), (17, 22));
+
+    let p = parameters([85, 30, 0, 60, 10, 10, 3]);
+    let (mut record, _) = PowerRecord::start(&p);
+    let messages = [Some((61, 20)), Some((61, 40)), Some((61, 40)), None, None];
+    assert_eq!(messages.map(|decoded| record.step(&p, decoded, 0).unwrap().pan), [20, 20, 40, 38, 37]);
+}
+
+#[test]
+fn a_refused_start_leaves_zeros() {
+    let zeros = PowerRecord { panlast: 0, parsave: 0, panbasic: 0, increase: 0 };
+    let p = parameters([127, 20, 0, 60, 10, 10, 0]);
+    assert_eq!(PowerRecord::start(&p), (zeros, Err(Refusal::ParameterOutOfRange)));
+}
+
+/// Parameters that are mostly in range.
+fn some_parameters(dice: &Dice) -> PowerParameters {
+    let most = [126, 60, 60, 60, 31, 10, 15];
+    let mut codes = most.map(|most| dice.below(most + 1));
+    if !dice.once_in(8) && codes[2] > codes[3] {
+        codes.swap(2, 3);
+    }
+    if dice.once_in(8) {
+        let place = dice.below(7) as usize;
+        codes[place] = dice.one_of(&[most[place], most[place] + 1, u32::MAX, 1 << 31, dice.word()]);
+    }
+    parameters(codes)
+}
+
+#[test]
+fn power_steps_agree_with_the_second_program() {
+    let dice = Dice::new(7);
+    let codes = |p: &PowerParameters| second::power::Parameters {
+        sqt: p.sqt as i32,
+        pan_init: p.paninit as i32,
+        pan_min: p.panmin as i32,
+        pan_max: p.panmax as i32,
+        gain_up: p.gainup as i32,
+        gain_down: p.gaindn as i32,
+        mestep: p.mestep as i32,
+    };
+    for _ in 0..2_000 {
+        let p = some_parameters(&dice);
+        let (mut plain, answer) = PowerRecord::start(&p);
+        let (mut second, told) = second::power::Power::start(&codes(&p));
+        assert_eq!(number(answer), second_number(told));
+        for _ in 0..50 {
+            let p = if dice.once_in(2) { p } else { some_parameters(&dice) };
+            let code = || dice.one_of(&[0, 60, 61, 63, 64, u32::MAX, dice.below(61), dice.below(61), dice.below(64)]);
+            let (pan, par) = (code(), code());
+            let decoded = (!dice.once_in(3)).then_some((pan, par));
+            let sqi =
+                dice.one_of(&[-3_001, -3_000, 4_000, 4_001, dice.from_to(-3_000, 4_000), dice.from_to(-3_000, 4_000)]);
+            let before = plain;
+            let answer = plain.step(&p, decoded, sqi);
+            let told = decoded.map(|(pan, par)| second::power::Codes { pan: pan as i32, par: par as i32 });
+            let told =
+                second.step(&codes(&p), told, sqi).map(|sent| Sent { par: sent.par as u32, pan: sent.pan as u32 });
+            assert_eq!(answer.map_err(|why| why as u8), told.map_err(|why| why.number()));
+            assert!(answer.is_ok() || plain == before);
+        }
+    }
+}
+
+#[test]
+fn damaged_power_records_are_refused_and_stay() {
+    let good = PowerRecord { panlast: 60, parsave: 60, panbasic: 60, increase: 24_000 };
+    let p = parameters([127, 0, 0, 60, 0, 0, 0]);
+    assert_eq!(good.clone().step(&p, None, 5_000), Err(Refusal::ParameterOutOfRange));
+    let damages = [
+        PowerRecord { panlast: 61, ..good },
+        PowerRecord { parsave: 61, ..good },
+        PowerRecord { panbasic: u32::MAX, ..good },
+        PowerRecord { increase: 24_200, ..good },
+        PowerRecord { increase: 23_999, ..good },
+        PowerRecord { increase: 1, ..good },
+    ];
+    for damaged in damages {
+        let mut record = damaged;
+        assert_eq!(record.step(&p, Some((64, 64)), 5_000), Err(Refusal::RecordNotWellFormed));
+        assert_eq!(record, damaged);
+    }
+}
+
+// The loops.
+
+#[test]
+fn the_first_ticks_of_the_loops() {
+    let mixed = |answers: &[u32]| answers.iter().fold(0_u32, |sum, answer| sum.wrapping_mul(31).wrapping_add(*answer));
+    assert_eq!(bench_sweep(0, 0, 5), 0);
+    assert_eq!(bench_sweep(0, 2, 5), mixed(&[1_002, 100, 1_003, 100]));
+    assert_eq!(bench_sweep(3, 2, 5), mixed(&[9, 9]));
+    assert_eq!(bench_choice(3, 2, 5), mixed(&[8, 8]));
+    assert_eq!(bench_choice(4, 2, 5), mixed(&[9, 9]));
+    let warm = bench_watch(0, 0, 5);
+    assert_eq!(warm, mixed(&[100; 210]));
+    assert_eq!(bench_watch(0, 2, 5), mixed(&[100; 212]));
+    let mut answers = vec![100; 210];
+    answers.extend([9; 3]);
+    assert_eq!(bench_watch(4, 1, 5), mixed(&answers));
+}
+
+#[test]
+fn a_whole_sweep_ends_with_done_and_its_counts() {
+    // Kind 2 hears every channel: 1,085 channels filed, then done, the counts and a fresh sweep.
+    let mut answers: Vec<u32> = (2..=1_086).flat_map(|channel| [1_000 + channel, 100]).collect();
+    answers.extend([101, 1_085 * 2_000 + 1_085 + 10_000, 1_002, 100]);
+    let sum = answers.iter().fold(0_u32, |sum, answer| sum.wrapping_mul(31).wrapping_add(*answer));
+    assert_eq!(bench_sweep(2, 1_087, 99), sum);
+}
