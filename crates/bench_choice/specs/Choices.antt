@@ -40,7 +40,7 @@ tick kind s r = record { x = drawn (r .x); sum = mixed (r .sum) (acted kind s (d
 
 -- the sweep before the choices: every channel heard
 unfoldable pub filled : ℕ → Run
-filled seed = times sweptChannels (sweeps.tick 3) (sweeps.begun seed)
+filled seed = times sweptChannels (sweeps.tick 2) (sweeps.begun seed)
 
 unfoldable pub checksum : ℕ → ℕ → ℕ → ℕ
 checksum kind ticks seed = times ticks (tick kind (filled seed .sweep)) (record { x = filled seed .x; sum = 0 }) .sum

@@ -86,7 +86,7 @@ fn ran(kind: u32, sweep: Sweep, state: State, ticks: u32) -> State
 fn filled(seed: u32) -> Run
     ensures { λ r. ⌜ r ≡ filled seed ⌝ }
 {
-    bench_sweep::ran(bench_sweep::begun(seed), 3, SWEPT)
+    bench_sweep::ran(bench_sweep::begun(seed), 2, SWEPT)
 }
 
 // The checksum after so many choices of a kind.

@@ -66,7 +66,7 @@ unfoldable pub acted : ℕ → Run → Run
 acted kind r =
     cond (eqb kind 0) (swept (likely (r .x)) r)
     (cond (eqb kind 1) (damagedCall r)
-    (cond (eqb kind 3) (swept (heard (r .x)) r) (damagedRecord r)))
+    (cond (eqb kind 2) (swept (heard (r .x)) r) (damagedRecord r)))
 
 -- a number is drawn, and calls made of it
 unfoldable pub tick : ℕ → Run → Run

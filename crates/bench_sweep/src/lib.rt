@@ -134,7 +134,7 @@ fn ticked(run: Run, kind: u32) -> Run
     if kind == 1 {
         return damaged_call(next);
     }
-    if kind == 3 {
+    if kind == 2 {
         return swept(next, heard(x));
     }
     damaged_record(next)

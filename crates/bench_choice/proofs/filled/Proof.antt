@@ -16,7 +16,7 @@ ran-requires c κs = search needs
 
 returns : tie.Need-returns
 unfolding filled
-returns c = c .ran .ensures ∙ ap (times sweptChannels (tick 3)) (c .before .begun .ensures)
+returns c = c .ran .ensures ∙ ap (times sweptChannels (tick 2)) (c .before .begun .ensures)
 
 pub filled-spec : {M : Type 1} → statement M
 filled-spec = tie.close (tie.spec begun-requires ran-requires returns)

@@ -49,7 +49,7 @@ returns-3 : tie.Need-returns-3
 unfolding tick acted
 returns-3 c =
     let at = c .before .before .before .before .before in
-    rw (ne-eqb _ 0 (c .before .before .before .before .if1 .left), ne-eqb _ 1 (c .before .before .before .if2 .left), eq-eqb _ 3 (c .before .before .if3 .taken))
+    rw (ne-eqb _ 0 (c .before .before .before .before .if1 .left), ne-eqb _ 1 (c .before .before .before .if2 .left), eq-eqb _ 2 (c .before .before .if3 .taken))
     (c .swept2 .ensures ∙ ap (λ b. swept b (with (at .before .args .run) (at .drawn .result))) (c .before .heard .ensures) ∙ ap (λ x. swept (heard x) (with (at .before .args .run) x)) (at .drawn .ensures))
 
 damaged-record-requires : tie.Need-damaged-record-requires
@@ -59,7 +59,7 @@ returns-4 : tie.Need-returns-4
 unfolding tick acted
 returns-4 c =
     let at = c .before .before .before .before in
-    rw (ne-eqb _ 0 (c .before .before .before .if1 .left), ne-eqb _ 1 (c .before .before .if2 .left), ne-eqb _ 3 (c .before .if3 .left))
+    rw (ne-eqb _ 0 (c .before .before .before .if1 .left), ne-eqb _ 1 (c .before .before .if2 .left), ne-eqb _ 2 (c .before .if3 .left))
     (c .damaged-record .ensures ∙ ap (λ x. damagedRecord (with (at .before .args .run) x)) (at .drawn .ensures))
 
 pub ticked-spec : {M : Type 1} → statement M
