@@ -2,7 +2,7 @@
 use Prim.Native.Nat.{ℕ, _+_, _*_, _/_, _%_}
 use mathlib.Core.Bool.{cond}
 use mathlib.Core.List.{List, [], _∷_}
-use lib.Dec.{eqb}
+use lib.Dec.{eqb, ltb}
 use lib.IntN.{pos, natAbs}
 use Rattle.refusal.specs.Told.{Told, refused, gives}
 use Rattle.watch_rules.specs.declared.Watch.{Watch}
@@ -24,46 +24,48 @@ numberOf (gives (moveTo c)) = 2000 + c
 abbrev pub after : Run → Called → Run
 after r h = record { watch = h .watch; x = r .x; sum = mixed (r .sum) (numberOf (h .answer)) }
 
+-- a number is drawn
+abbrev pub drawnOn : Run → Run
+drawnOn r = record { watch = r .watch; x = drawn (r .x); sum = r .sum }
+
 -- a call on the watch
 unfoldable pub made : Call → Run → Run
 made k r = after r (called (r .watch) k)
 
--- another watch
-abbrev pub withWatch : Watch → Run → Run
-withWatch w r = record { watch = w; x = r .x; sum = r .sum }
+-- a call that leaves its answer alone
+unfoldable pub answered : Watch → Call → Run → Run
+answered w k r = record { watch = r .watch; x = r .x; sum = mixed (r .sum) (numberOf (called w k .answer)) }
 
 -- one of the channels watched
 abbrev pub channelOf : ℕ → ℕ
 channelOf x = 100 * (1 + x / 65536 % 7)
 
-unfoldable pub filed : Run → Run
-filed r = made (file (channelOf (r .x)) (likely (r .x))) r
+-- kinds 0 to 2: a filing, a question, a verdict
+unfoldable pub usual : ℕ → ℕ → Call
+usual kind x = cond (eqb kind 0) (file (channelOf x) (likely x)) (cond (eqb kind 1) (ask (channelOf x)) (verdict (pos (x % 6001))))
 
-unfoldable pub asked : Run → Run
-asked r = made (ask (channelOf (r .x))) r
+unfoldable pub usualTick : ℕ → Run → Run
+usualTick kind r = made (usual kind (drawn (r .x))) (drawnOn r)
 
-unfoldable pub judged : Run → Run
-judged r = made (verdict (pos (r .x % 6001))) r
-
--- any channel, any floats, any hysteresis that is not negative
+-- kind 3: any channel, any floats, any hysteresis that is not negative
 unfoldable pub damagedCalls : Run → Run
-damagedCalls r = made (verdict (pos (r .x / 2))) (made (ask (r .x % 65536)) (made (file (r .x / 65536) (anything (r .x))) r))
+damagedCalls r =
+    let x = drawn (r .x) in
+    made (verdict (pos (x / 2))) (made (ask (x % 65536)) (made (file (x / 65536) (anything x)) (drawnOn r)))
 
--- the three calls on a copy that says it watches 8 channels; the watch itself stays
+-- any other: the three calls on a copy that says it watches 8 channels; the watch itself stays
+abbrev pub damaged : Watch → Watch
+damaged w = record { watched = 8; tracks = w .tracks }
+
 unfoldable pub damagedRecord : Run → Run
-damagedRecord r = withWatch (r .watch) (judged (asked (filed (withWatch (record { watched = 8; tracks = r .watch .tracks }) r))))
+damagedRecord r =
+    let x = drawn (r .x) in
+    let w = damaged (r .watch) in
+    answered w (verdict (pos (x % 6001))) (answered w (ask (channelOf x)) (answered w (file (channelOf x) (likely x)) (drawnOn r)))
 
--- by kind
-unfoldable pub acted : ℕ → Run → Run
-acted kind r =
-    cond (eqb kind 0) (filed r)
-    (cond (eqb kind 1) (asked r)
-    (cond (eqb kind 2) (judged r)
-    (cond (eqb kind 3) (damagedCalls r) (damagedRecord r))))
-
--- a number is drawn, and a call made of it
+-- what is done in a tick
 unfoldable pub tick : ℕ → Run → Run
-tick kind r = acted kind (record { watch = r .watch; x = drawn (r .x); sum = r .sum })
+tick kind = cond (ltb kind 3) (usualTick kind) (cond (eqb kind 3) damagedCalls damagedRecord)
 
 abbrev pub listed : List ℕ
 listed = 200 ∷ 300 ∷ 400 ∷ 500 ∷ 600 ∷ 700 ∷ []

@@ -1,14 +1,14 @@
 // Calls on a watch, timed: filing, asking, the verdict, damaged calls and damaged records.
 ghost use mathlib.Core.Path.{_≡_};
 ghost use lib.IntN.{natAbs};
-ghost use Rattle.watch_rules.specs.Told.{Call, told, toldHanded};
-ghost use Rattle.bench_draws.specs.Draws.{times};
-ghost use Rattle.bench_watch.specs.Watches.{numberOf, after, made, channelOf, filed, asked, judged, damagedCalls, damagedRecord, tick, begun, checksum};
+ghost use Rattle.watch_rules.specs.Told.{told, toldHanded};
+ghost use Rattle.watch_rules.specs.Record.{called};
+ghost use Rattle.bench_draws.specs.Draws.{times, mixed};
+ghost use Rattle.bench_watch.specs.Watches.{numberOf, channelOf, usual, usualTick, damagedCalls, damagedRecord, tick, begun, checksum};
 use bench_draws::anything;
 use bench_draws::drawn;
 use bench_draws::likely;
 use bench_draws::mixed;
-use readings::Burst;
 use watch_rules::Answer;
 use watch_rules::Handed;
 use watch_rules::Watch;
@@ -48,41 +48,11 @@ fn number_of(answer: Answer) -> u32
     }
 }
 
-// What a call handed back: the watch goes on, the answer is mixed in.
-fn taken(run: Run, handed: Handed) -> Run
-    ensures { λ r. ⌜ r ≡ after run (toldHanded handed) ⌝ }
+// One answer more in the checksum.
+fn with_answer(sum: u32, answer: Answer) -> u32
+    ensures { λ r. ⌜ r ≡ mixed sum (numberOf (told answer)) ⌝ }
 {
-    let watch = handed.watch;
-    let answer = handed.answer;
-    Run {
-        watch,
-        x: run.x,
-        sum: mixed(run.sum, number_of(answer)),
-    }
-}
-
-fn file(run: Run, channel: u16, burst: Burst) -> Run
-    ensures { λ r. ⌜ r ≡ made (Call.file channel burst) run ⌝ }
-{
-    let watch = run.watch;
-    let handed = watch::file(watch, channel, burst);
-    taken(run, handed)
-}
-
-fn ask(run: Run, channel: u16) -> Run
-    ensures { λ r. ⌜ r ≡ made (Call.ask channel) run ⌝ }
-{
-    let watch = run.watch;
-    let handed = watch::ask(watch, channel);
-    taken(run, handed)
-}
-
-fn judge(run: Run, hysteresis: i32) -> Run
-    ensures { λ r. ⌜ r ≡ made (Call.verdict hysteresis) run ⌝ }
-{
-    let watch = run.watch;
-    let handed = watch::verdict(watch, hysteresis);
-    taken(run, handed)
+    mixed(sum, number_of(answer))
 }
 
 // Channels 100 to 700, those of the watch.
@@ -92,79 +62,99 @@ fn channel_of(x: u32) -> u16
     (100 * (1 + x / 65536 % 7)) as u16
 }
 
-fn filed(run: Run) -> Run
-    ensures { λ r. ⌜ r ≡ filed run ⌝ }
+// The call of a kind below 3.
+fn call(w: Watch, kind: u32, x: u32) -> Handed
+    ensures { λ r. ⌜ toldHanded r ≡ called w (usual kind x) ⌝ }
 {
-    let x = run.x;
-    file(run, channel_of(x), likely(x))
+    if kind == 0 {
+        return watch::file(w, channel_of(x), likely(x));
+    }
+    if kind == 1 {
+        return watch::ask(w, channel_of(x));
+    }
+    watch::verdict(w, (x % 6001) as i32)
 }
 
-fn asked(run: Run) -> Run
-    ensures { λ r. ⌜ r ≡ asked run ⌝ }
+// Here and below the parts of a run are locals, so that a tick copies little beside what the call does.
+fn usual_calls(run: Run, kind: u32, ticks: u32) -> Run
+    ensures { λ r. ⌜ r ≡ times ticks (usualTick kind) run ⌝ }
 {
-    let x = run.x;
-    ask(run, channel_of(x))
-}
-
-fn judged(run: Run) -> Run
-    ensures { λ r. ⌜ r ≡ judged run ⌝ }
-{
-    let x = run.x;
-    judge(run, (x % 6001) as i32)
+    let mut w = run.watch;
+    let mut x = run.x;
+    let mut sum = run.sum;
+    let mut i = 0;
+    while i < ticks {
+        x = drawn(x);
+        let handed = call(w, kind, x);
+        w = handed.watch;
+        let answer = handed.answer;
+        sum = with_answer(sum, answer);
+        i += 1;
+    }
+    Run { watch: w, x, sum }
 }
 
 // Any channel, any floats, any hysteresis that is not negative.
-fn damaged_calls(run: Run) -> Run
-    ensures { λ r. ⌜ r ≡ damagedCalls run ⌝ }
+fn damaged_calls(run: Run, ticks: u32) -> Run
+    ensures { λ r. ⌜ r ≡ times ticks damagedCalls run ⌝ }
 {
-    let x = run.x;
-    let run = file(run, (x / 65536) as u16, anything(x));
-    let run = ask(run, (x % 65536) as u16);
-    judge(run, (x / 2) as i32)
+    let mut w = run.watch;
+    let mut x = run.x;
+    let mut sum = run.sum;
+    let mut i = 0;
+    while i < ticks {
+        x = drawn(x);
+        let filed = watch::file(w, (x / 65536) as u16, anything(x));
+        let answer = filed.answer;
+        sum = with_answer(sum, answer);
+        let asked = watch::ask(filed.watch, (x % 65536) as u16);
+        let answer = asked.answer;
+        sum = with_answer(sum, answer);
+        let judged = watch::verdict(asked.watch, (x / 2) as i32);
+        let answer = judged.answer;
+        sum = with_answer(sum, answer);
+        w = judged.watch;
+        i += 1;
+    }
+    Run { watch: w, x, sum }
 }
 
 // The three calls on a copy that says it watches 8 channels.
-fn damaged_record(run: Run) -> Run
-    ensures { λ r. ⌜ r ≡ damagedRecord run ⌝ }
+fn damaged_records(run: Run, ticks: u32) -> Run
+    ensures { λ r. ⌜ r ≡ times ticks damagedRecord run ⌝ }
 {
-    let watch = run.watch;
-    let mut copy = run;
-    copy.watch.watched = 8;
-    let mut after = judged(asked(filed(copy)));
-    after.watch = watch;
-    after
-}
-
-fn ticked(run: Run, kind: u32) -> Run
-    ensures { λ r. ⌜ r ≡ tick kind run ⌝ }
-{
-    let mut next = run;
-    next.x = drawn(run.x);
-    if kind == 0 {
-        return filed(next);
+    let w = run.watch;
+    let mut copy = w;
+    copy.watched = 8;
+    let mut x = run.x;
+    let mut sum = run.sum;
+    let mut i = 0;
+    while i < ticks {
+        x = drawn(x);
+        let filed = watch::file(copy, channel_of(x), likely(x));
+        let answer = filed.answer;
+        sum = with_answer(sum, answer);
+        let asked = watch::ask(copy, channel_of(x));
+        let answer = asked.answer;
+        sum = with_answer(sum, answer);
+        let judged = watch::verdict(copy, (x % 6001) as i32);
+        let answer = judged.answer;
+        sum = with_answer(sum, answer);
+        i += 1;
     }
-    if kind == 1 {
-        return asked(next);
-    }
-    if kind == 2 {
-        return judged(next);
-    }
-    if kind == 3 {
-        return damaged_calls(next);
-    }
-    damaged_record(next)
+    Run { watch: w, x, sum }
 }
 
 fn ran(run: Run, kind: u32, ticks: u32) -> Run
     ensures { λ r. ⌜ r ≡ times ticks (tick kind) run ⌝ }
 {
-    let mut r = run;
-    let mut i = 0;
-    while i < ticks {
-        r = ticked(r, kind);
-        i += 1;
+    if kind < 3 {
+        return usual_calls(run, kind, ticks);
     }
-    r
+    if kind == 3 {
+        return damaged_calls(run, ticks);
+    }
+    damaged_records(run, ticks)
 }
 
 // A watch of seven channels without levels.

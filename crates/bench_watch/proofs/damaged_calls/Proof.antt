@@ -1,55 +1,126 @@
--- `bench_watch::damaged_calls` meets its contract: each call on what the one before left.
-use mathlib.Core.Path.{ap, _∙_}
-use lib.IntN.{pos}
-use Prim.Native.Nat.{_/_, _%_}
-use Rattle.watch_rules.specs.Told.{file, ask, verdict}
-use mir.Syntax.{w32}
-use mir.ValLaws.{toZ-ofZ}
-use Rattle.bench_watch.specs.Watches.{made, damagedCalls}
+-- `bench_watch::damaged_calls` meets its contract: before the tick of number i, i ticks are done.
+use mathlib.Core.Path.{_≡_, ap, _∙_}
+use Prim.Native.Nat.{_+_, _-_, _≤_}
+use native.Mathlib.Omega.{arith}
 use borrow.Author.Needs.{needs}
+use Prim.Native.Nat.{ℕ, _/_, _%_}
+use lib.IntN.{ℤ, pos}
+use mir.Syntax.{w32}
+use mir.Val.{toZ}
+use mir.ValLaws.{toZ-ofZ}
+use Rattle.readings.specs.declared.Burst.{Burst}
+use Rattle.watch_rules.specs.Told.{file, ask, verdict}
+use Rattle.bench_draws.specs.Draws.{anything}
+use Rattle.bench_watch.specs.declared.Run.{Run}
+use Rattle.bench_watch.specs.Watches.{made, damagedCalls}
+use Rattle.bench_draws.proofs.Loops.{times-none, times-more}
+use Rattle.bench_watch.proofs.Ticks.{run, taken, noted}
+use Rattle.bench_draws.specs.Draws.{times}
 use Rattle.bench_watch.proofs.damaged_calls.Statement.{statement}
 use Rattle.bench_watch.proofs.damaged_calls.Tie as tie
 
-cast-file : tie.Need-cast-file
+abbrev three : ℕ → Run → ℤ → Burst → Run
+three x r h b = made (verdict h) (made (ask (x % 65536)) (made (file (x / 65536) b) r))
+
+abbrev Inv-loop : tie.InvT-loop
+Inv-loop ticks w₀ x₀ sum₀ i₀ w x sum i = (i ≤ ticks) × (run w x sum ≡ times i damagedCalls (run w₀ x₀ sum₀))
+
+abbrev μ-loop : tie.MeasureT-loop
+μ-loop ticks w₀ x₀ sum₀ i₀ w x sum i = ticks - i
+
+loop-holds : tie.Need-loop-holds Inv-loop μ-loop
+loop-holds c = (omega arith, times-none damagedCalls (c .before .args .run))
+
+drawn-requires : tie.Need-drawn-requires Inv-loop μ-loop
+drawn-requires c κs = search needs
+
+cast-file : tie.Need-cast-file Inv-loop μ-loop
 cast-file c = search needs
 
-anything-requires : tie.Need-anything-requires
+anything-requires : tie.Need-anything-requires Inv-loop μ-loop
 anything-requires c κs = search needs
 
-file-requires : tie.Need-file-requires
+file-requires : tie.Need-file-requires Inv-loop μ-loop
 file-requires c κs = search needs
 
-cast-ask : tie.Need-cast-ask
+with-answer-requires : tie.Need-with-answer-requires Inv-loop μ-loop
+with-answer-requires c κs = search needs
+
+cast-ask : tie.Need-cast-ask Inv-loop μ-loop
 cast-ask c = search needs
 
-ask-requires : tie.Need-ask-requires
+ask-requires : tie.Need-ask-requires Inv-loop μ-loop
 ask-requires c κs = search needs
 
-cast-judge : tie.Need-cast-judge
-cast-judge c = search needs
+with-answer-requires-2 : tie.Need-with-answer-requires-2 Inv-loop μ-loop
+with-answer-requires-2 c κs = search needs
 
-judge-requires : tie.Need-judge-requires
-judge-requires c κs = search needs
+cast-verdict : tie.Need-cast-verdict Inv-loop μ-loop
+cast-verdict c = search needs
 
-returns : tie.Need-returns
+verdict-requires : tie.Need-verdict-requires Inv-loop μ-loop
+verdict-requires c κs = search needs
+
+with-answer-requires-3 : tie.Need-with-answer-requires-3 Inv-loop μ-loop
+with-answer-requires-3 c κs = search needs
+
+add-i : tie.Need-add-i Inv-loop μ-loop
+add-i c = search needs
+
+loop-less : tie.Need-loop-less Inv-loop μ-loop
+loop-less c = omega (arith, c .before .before .before .before .before .before .before .before .before .loop-test .taken)
+
+loop-again : tie.Need-loop-again Inv-loop μ-loop
 unfolding damagedCalls
+loop-again c =
+    let a = c .before .before .before .before .before .before .before .before .before .before .before .before .args in
+    let at = c .before .before .before .before .before .before .before .before .before .before .loop in
+    let x = c .before .before .before .before .before .before .before .before .drawn .result in
+    let b = c .before .before .before .before .before .before .before .anything .result in
+    let r = run (at .w) x (at .sum) in
+    let filed = c .before .before .before .before .before .before .file in
+    let asked = c .before .before .before .before .ask in
+    let judged = c .before .before .verdict in
+    let sum1 = c .before .before .before .before .before .with-answer in
+    let sum2 = c .before .before .before .with-answer2 in
+    let sum3 = c .before .with-answer3 in
+    let first = taken (file (x / 65536) b) r (filed .result) (filed .ensures) (sum1 .ensures) in
+    let second = taken (ask (x % 65536)) (run (filed .result .watch) x (sum1 .result)) (asked .result) (asked .ensures) (sum2 .ensures) in
+    let third = taken (verdict (toZ w32 (x / 2))) (run (asked .result .watch) x (sum2 .result)) (judged .result) (judged .ensures) (sum3 .ensures) in
+    let done =
+    third
+    ∙ ap (made (verdict (toZ w32 (x / 2)))) (second ∙ ap (made (ask (x % 65536))) first)
+    ∙ ap (λ h. three x r h b) (toZ-ofZ w32 (pos (x / 2)) (cast-verdict (c .before .before .before)))
+    ∙ ap (three x r (pos (x / 2))) (c .before .before .before .before .before .before .before .anything .ensures)
+    ∙ ap (λ y. three y (run (at .w) y (at .sum)) (pos (y / 2)) (anything y)) (c .before .before .before .before .before .before .before .before .drawn .ensures) in
+    (omega (arith, c .before .before .before .before .before .before .before .before .before .loop-test .taken), done ∙ ap damagedCalls (at .inv .1) ∙ times-more damagedCalls (a .run) (at .i))
+
+returns : tie.Need-returns Inv-loop μ-loop
 returns c =
-    let run = c .before .before .before .before .args .run in
-    c .judge .ensures
-    ∙ ap (λ h. made (verdict h) (c .before .ask .result)) (toZ-ofZ w32 (pos (run .x / 2)) (cast-judge (c .before)))
-    ∙ ap (made (verdict (pos (run .x / 2))))
-    (c .before .ask .ensures
-    ∙ ap (made (ask (run .x % 65536))) (c .before .before .file .ensures ∙ ap (λ b. made (file (run .x / 65536) b) run) (c .before .before .before .anything .ensures)))
+    let a = c .before .before .before .args in
+    let at = c .before .loop in
+    let n : at .i ≡ a .ticks = omega (arith, at .inv .0, c .loop-test .left) in
+    at .inv .1 ∙ ap (λ k. times k damagedCalls (a .run)) n
 
 pub damaged-calls-spec : {M : Type 1} → statement M
 damaged-calls-spec =
     tie.close
     (tie.spec
+    Inv-loop
+    μ-loop
+    loop-holds
+    drawn-requires
     cast-file
     anything-requires
     file-requires
+    with-answer-requires
     cast-ask
     ask-requires
-    cast-judge
-    judge-requires
+    with-answer-requires-2
+    cast-verdict
+    verdict-requires
+    with-answer-requires-3
+    add-i
+    loop-less
+    loop-again
     returns)

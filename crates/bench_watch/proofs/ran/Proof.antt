@@ -1,48 +1,38 @@
--- `bench_watch::ran` meets its contract: before the tick of number i, i ticks are done.
-use mathlib.Core.Path.{_≡_, sym, ap, _∙_}
-use Prim.Native.Nat.{_-_, _≤_}
-use native.Mathlib.Omega.{arith}
-use borrow.Author.Needs.{needs}
-use Rattle.bench_draws.proofs.Loops.{times-none, times-more}
-use Rattle.bench_draws.specs.Draws.{times}
+-- `bench_watch::ran` meets its contract, kind by kind.
+use borrow.Author.Tests.{lt-ltb, le-ltb, eq-eqb, ne-eqb}
 use Rattle.bench_watch.specs.Watches.{tick}
+use borrow.Author.Needs.{needs}
 use Rattle.bench_watch.proofs.ran.Statement.{statement}
 use Rattle.bench_watch.proofs.ran.Tie as tie
 
-abbrev Inv-loop : tie.InvT-loop
-Inv-loop kind ticks r₀ i₀ r i = (i ≤ ticks) × (r ≡ times i (tick kind) r₀)
+usual-calls-requires : tie.Need-usual-calls-requires
+usual-calls-requires c κs = search needs
 
-abbrev μ-loop : tie.MeasureT-loop
-μ-loop kind ticks r₀ i₀ r i = ticks - i
+returns : tie.Need-returns
+unfolding tick
+returns c = rw (lt-ltb _ 3 (c .before .if1 .taken)) (c .usual-calls .ensures)
 
-loop-holds : tie.Need-loop-holds Inv-loop μ-loop
-loop-holds c = (omega arith, times-none (tick (c .args .kind)) (c .args .run))
+damaged-calls-requires : tie.Need-damaged-calls-requires
+damaged-calls-requires c κs = search needs
 
-ticked-requires : tie.Need-ticked-requires Inv-loop μ-loop
-ticked-requires c κs = search needs
+returns-2 : tie.Need-returns-2
+unfolding tick
+returns-2 c = rw (le-ltb _ 3 (c .before .before .if1 .left), eq-eqb _ 3 (c .before .if2 .taken)) (c .damaged-calls .ensures)
 
-add-i : tie.Need-add-i Inv-loop μ-loop
-add-i c = search needs
+damaged-records-requires : tie.Need-damaged-records-requires
+damaged-records-requires c κs = search needs
 
-loop-less : tie.Need-loop-less Inv-loop μ-loop
-loop-less c = omega (arith, c .before .loop-test .taken)
-
-loop-again : tie.Need-loop-again Inv-loop μ-loop
-loop-again c =
-    let a = c .before .before .before .args in
-    let at = c .before .before .loop in (
-      omega (arith, c .before .loop-test .taken),
-      c .ticked .ensures ∙ ap (tick (a .kind)) (at .inv .1) ∙ times-more (tick (a .kind)) (a .run) (at .i),
-    )
-
-returns : tie.Need-returns Inv-loop μ-loop
-returns c =
-    let a = c .before .before .args in
-    let at = c .before .loop in
-    let n : at .i ≡ a .ticks = omega (arith, at .inv .0, c .loop-test .left) in
-    at .inv .1 ∙ ap (λ k. times k (tick (a .kind)) (a .run)) n
+returns-3 : tie.Need-returns-3
+unfolding tick
+returns-3 c = rw (le-ltb _ 3 (c .before .before .if1 .left), ne-eqb _ 3 (c .before .if2 .left)) (c .damaged-records .ensures)
 
 pub ran-spec : {M : Type 1} → statement M
 ran-spec =
     tie.close
-    (tie.spec Inv-loop μ-loop loop-holds ticked-requires add-i loop-less loop-again returns)
+    (tie.spec
+    usual-calls-requires
+    returns
+    damaged-calls-requires
+    returns-2
+    damaged-records-requires
+    returns-3)
