@@ -12,6 +12,7 @@ use Rattle.sweep.specs.Next.{Next, channel, done, nextTold}
 use Rattle.sweep.specs.Counts.{Counts, countsTold}
 use Rattle.bench_draws.specs.Draws.{times, drawn, mixed, heard, likely, anything}
 use Rattle.bench_sweep.specs.declared.Run.{Run}
+use Rattle.bench_sweep.specs.declared.Left.{Left}
 
 -- the answer of a filing as a number
 abbrev pub outcomeNumber : Told Unit → ℕ
@@ -23,54 +24,54 @@ abbrev pub countsNumber : Told Counts → ℕ
 countsNumber (refused n) = n
 countsNumber (gives k) = k .visited % 65536 * 2000 + k .heard % 65536 + 10000
 
--- another sweep
-abbrev pub withSweep : Sweep → Run → Run
-withSweep s r = record { sweep = s; x = r .x; sum = r .sum }
+-- what a call leaves
+abbrev pub left : Sweep → ℕ → Left
+left s sum = record { sweep = s; sum = sum }
 
 -- one answer more
-abbrev pub withAnswer : ℕ → Run → Run
-withAnswer n r = record { sweep = r .sweep; x = r .x; sum = mixed (r .sum) n }
+abbrev pub withAnswer : ℕ → Left → Left
+withAnswer n p = left (p .sweep) (mixed (p .sum) n)
 
 -- a filing: the sweep that it leaves goes on, its answer is mixed in
-unfoldable pub filed : ℕ → Burst → Run → Run
-filed c b r = withSweep (leaves (r .sweep) (filing (r .sweep) c b)) (withAnswer (outcomeNumber (answers (filing (r .sweep) c b))) r)
+unfoldable pub filed : ℕ → Burst → Left → Left
+filed c b p = left (leaves (p .sweep) (filing (p .sweep) c b)) (mixed (p .sum) (outcomeNumber (answers (filing (p .sweep) c b))))
 
 -- the counts are mixed in, and a fresh sweep begins
-unfoldable pub counted : Run → Run
-counted r = withSweep freshSweep (withAnswer (countsNumber (countsTold (r .sweep))) r)
+unfoldable pub counted : Left → Left
+counted p = left freshSweep (mixed (p .sum) (countsNumber (countsTold (p .sweep))))
 
 -- what follows the next channel: it is mixed in, and the burst is filed for it; or the sweep is done
-unfoldable pub followed : Burst → Run → Told Next → Run
-followed b r (refused n) = withAnswer n r
-followed b r (gives (channel c)) = filed c b (withAnswer (1000 + c) r)
-followed b r (gives done) = counted (withAnswer 101 r)
+unfoldable pub followed : Burst → Left → Told Next → Left
+followed b p (refused n) = withAnswer n p
+followed b p (gives (channel c)) = filed c b (withAnswer (1000 + c) p)
+followed b p (gives done) = counted (withAnswer 101 p)
 
 -- the sweep as it should go
-unfoldable pub swept : Burst → Run → Run
-swept b r = followed b r (nextTold (r .sweep))
-
--- any channel and any floats
-unfoldable pub damagedCall : Run → Run
-damagedCall r = filed (r .x / 65536) (anything (r .x)) r
+unfoldable pub swept : Burst → Left → Left
+swept b p = followed b p (nextTold (p .sweep))
 
 -- the sweep with channel 0 heard and not visited
 abbrev pub damaged : Sweep → Sweep
 damaged s = record { levels = s .levels; visited = s .visited; heard = set (s .heard) 0 1 }
 
 -- a filing in a damaged copy; the sweep itself stays
-unfoldable pub damagedRecord : Run → Run
-damagedRecord r = withSweep (r .sweep) (filed (r .x / 65536) (likely (r .x)) (withSweep (damaged (r .sweep)) r))
+unfoldable pub damagedRecord : ℕ → Left → Left
+damagedRecord x p = left (p .sweep) (filed (x / 65536) (likely x) (left (damaged (p .sweep)) (p .sum)) .sum)
 
--- by kind
-unfoldable pub acted : ℕ → Run → Run
-acted kind r =
-    cond (eqb kind 0) (swept (likely (r .x)) r)
-    (cond (eqb kind 1) (damagedCall r)
-    (cond (eqb kind 2) (swept (heard (r .x)) r) (damagedRecord r)))
+-- by kind: whole sweeps; any channel and any floats; whole sweeps with every channel heard; a damaged copy
+unfoldable pub acted : ℕ → ℕ → Left → Left
+acted kind x p =
+    cond (eqb kind 0) (swept (likely x) p)
+    (cond (eqb kind 1) (filed (x / 65536) (anything x) p)
+    (cond (eqb kind 2) (swept (heard x) p) (damagedRecord x p)))
+
+-- a run with another number, and what a call left
+abbrev pub withLeft : ℕ → Left → Run
+withLeft x p = record { sweep = p .sweep; x = x; sum = p .sum }
 
 -- a number is drawn, and calls made of it
 unfoldable pub tick : ℕ → Run → Run
-tick kind r = acted kind (record { sweep = r .sweep; x = drawn (r .x); sum = r .sum })
+tick kind r = withLeft (drawn (r .x)) (acted kind (drawn (r .x)) (left (r .sweep) (r .sum)))
 
 -- a fresh sweep
 unfoldable pub begun : ℕ → Run

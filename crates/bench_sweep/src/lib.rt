@@ -3,7 +3,7 @@ ghost use mathlib.Core.Path.{_≡_};
 ghost use Rattle.refusal.specs.Told.{toldOutcome};
 ghost use Rattle.sweep.specs.Told.{toldNumbers};
 ghost use Rattle.bench_draws.specs.Draws.{times};
-ghost use Rattle.bench_sweep.specs.Sweeps.{outcomeNumber, countsNumber, withAnswer, filed, counted, swept, damagedCall, damaged, damagedRecord, tick, begun, checksum};
+ghost use Rattle.bench_sweep.specs.Sweeps.{outcomeNumber, countsNumber, left, filed, counted, swept, damaged, damagedRecord, acted, tick, begun, checksum};
 use bench_draws::anything;
 use bench_draws::drawn;
 use bench_draws::heard;
@@ -15,11 +15,17 @@ use sweep::NextChannel;
 use sweep::Numbers;
 use sweep::Sweep;
 
-// The number drawn last, and the checksum of the answers so far.
+// A sweep with the number drawn last and the checksum of the answers so far.
 pub struct Run {
     pub sweep: Sweep,
     pub x: u32,
     pub sum: u32,
+}
+
+// What a call leaves: the sweep, and the checksum with its answers.
+struct Left {
+    sweep: Sweep,
+    sum: u32,
 }
 
 fn outcome_number(answer: Outcome) -> u32
@@ -40,63 +46,44 @@ fn counts_number(answer: Numbers) -> u32
     }
 }
 
-// One answer more in the checksum.
-fn with_answer(run: Run, answer: u32) -> Run
-    ensures { λ r. ⌜ r ≡ withAnswer answer run ⌝ }
+fn filed(sweep: Sweep, sum: u32, channel: u16, burst: Burst) -> Left
+    ensures { λ r. ⌜ r ≡ filed channel burst (left sweep sum) ⌝ }
 {
-    let mut next = run;
-    next.sum = mixed(run.sum, answer);
-    next
-}
-
-fn filed(run: Run, channel: u16, burst: Burst) -> Run
-    ensures { λ r. ⌜ r ≡ filed channel burst run ⌝ }
-{
-    let before = run.sweep;
-    let filed = sweep::file(before, channel, burst);
+    let filed = sweep::file(sweep, channel, burst);
     let after = filed.sweep;
     let answer = filed.answer;
-    Run {
+    Left {
         sweep: after,
-        x: run.x,
-        sum: mixed(run.sum, outcome_number(answer)),
+        sum: mixed(sum, outcome_number(answer)),
     }
 }
 
 // The counts, and a fresh sweep.
-fn counted(run: Run) -> Run
-    ensures { λ r. ⌜ r ≡ counted run ⌝ }
+fn counted(sweep: Sweep, sum: u32) -> Left
+    ensures { λ r. ⌜ r ≡ counted (left sweep sum) ⌝ }
 {
-    let before = run.sweep;
-    let counts = sweep::counts(before);
+    let counts = sweep::counts(sweep);
     let answer = counts.answer;
-    Run {
+    Left {
         sweep: sweep::fresh(),
-        x: run.x,
-        sum: mixed(run.sum, counts_number(answer)),
+        sum: mixed(sum, counts_number(answer)),
     }
 }
 
 // The sweep as it should go: the burst is filed for the next channel.
-fn swept(run: Run, burst: Burst) -> Run
-    ensures { λ r. ⌜ r ≡ swept burst run ⌝ }
+fn swept(sweep: Sweep, sum: u32, burst: Burst) -> Left
+    ensures { λ r. ⌜ r ≡ swept burst (left sweep sum) ⌝ }
 {
-    let before = run.sweep;
-    let next = sweep::next(before);
+    let next = sweep::next(sweep);
     let answer = next.answer;
     match answer {
-        NextChannel::Channel(c) => filed(with_answer(run, 1000 + (c as u32)), c, burst),
-        NextChannel::Done => counted(with_answer(run, 101)),
-        NextChannel::Refused(why) => with_answer(run, refusal::number(why)),
+        NextChannel::Channel(c) => filed(sweep, mixed(sum, 1000 + (c as u32)), c, burst),
+        NextChannel::Done => counted(sweep, mixed(sum, 101)),
+        NextChannel::Refused(why) => Left {
+            sweep,
+            sum: mixed(sum, refusal::number(why)),
+        },
     }
-}
-
-// Any channel and any floats.
-fn damaged_call(run: Run) -> Run
-    ensures { λ r. ⌜ r ≡ damagedCall run ⌝ }
-{
-    let x = run.x;
-    filed(run, (x / 65536) as u16, anything(x))
 }
 
 // The sweep with channel 0 heard and not visited.
@@ -109,47 +96,47 @@ pub fn damaged(sweep: Sweep) -> Sweep
 }
 
 // A filing in a damaged copy.
-fn damaged_record(run: Run) -> Run
-    ensures { λ r. ⌜ r ≡ damagedRecord run ⌝ }
+fn damaged_record(sweep: Sweep, sum: u32, x: u32) -> Left
+    ensures { λ r. ⌜ r ≡ damagedRecord x (left sweep sum) ⌝ }
 {
-    let sweep = run.sweep;
-    let copy = damaged(sweep);
-    let mut next = run;
-    next.sweep = copy;
-    let x = run.x;
-    let mut after = filed(next, (x / 65536) as u16, likely(x));
-    after.sweep = sweep;
-    after
+    let filed = filed(damaged(sweep), sum, (x / 65536) as u16, likely(x));
+    Left {
+        sweep,
+        sum: filed.sum,
+    }
 }
 
-fn ticked(run: Run, kind: u32) -> Run
-    ensures { λ r. ⌜ r ≡ tick kind run ⌝ }
+// The calls of a tick, by its kind.
+fn acted(sweep: Sweep, sum: u32, kind: u32, x: u32) -> Left
+    ensures { λ r. ⌜ r ≡ acted kind x (left sweep sum) ⌝ }
 {
-    let x = drawn(run.x);
-    let mut next = run;
-    next.x = x;
     if kind == 0 {
-        return swept(next, likely(x));
+        return swept(sweep, sum, likely(x));
     }
     if kind == 1 {
-        return damaged_call(next);
+        return filed(sweep, sum, (x / 65536) as u16, anything(x));
     }
     if kind == 2 {
-        return swept(next, heard(x));
+        return swept(sweep, sum, heard(x));
     }
-    damaged_record(next)
+    damaged_record(sweep, sum, x)
 }
 
 pub fn ran(run: Run, kind: u32, ticks: u32) -> Run
     ensures { λ r. ⌜ r ≡ times ticks (tick kind) run ⌝ }
 {
-    let mut r = run;
+    let mut sweep = run.sweep;
+    let mut x = run.x;
+    let mut sum = run.sum;
     let mut i = 0;
     while i < ticks {
-        r = ticked(r, kind);
+        x = drawn(x);
+        let left = acted(sweep, sum, kind, x);
+        sweep = left.sweep;
+        sum = left.sum;
         i += 1;
     }
-    r
+    Run { sweep, x, sum }
 }
 
 // A fresh sweep.

@@ -1,7 +1,7 @@
 -- `bench_sweep::counted` meets its contract.
 use mathlib.Core.Path.{ap, _∙_}
 use Rattle.bench_draws.specs.Draws.{mixed}
-use Rattle.bench_sweep.specs.Sweeps.{countsNumber, counted}
+use Rattle.bench_sweep.specs.Sweeps.{countsNumber, left, counted}
 use borrow.Author.Needs.{needs}
 use Rattle.bench_sweep.proofs.counted.Statement.{statement}
 use Rattle.bench_sweep.proofs.counted.Tie as tie
@@ -21,12 +21,8 @@ mixed-requires c κs = search needs
 returns : tie.Need-returns
 unfolding counted
 returns c i =
-    let r = c .before .before .before .before .before .args .run in
-    record {
-      sweep = c .before .before .fresh .ensures i;
-      x = r .x;
-      sum = (c .mixed .ensures ∙ ap (mixed (r .sum)) (c .before .counts-number .ensures ∙ ap countsNumber (c .before .before .before .counts .ensures .1))) i;
-    }
+    let n = c .before .counts-number .ensures ∙ ap countsNumber (c .before .before .before .counts .ensures .1) in
+    left (c .before .before .fresh .ensures i) ((c .mixed .ensures ∙ ap (mixed (c .before .before .before .before .args .sum)) n) i)
 
 pub counted-spec : {M : Type 1} → statement M
 counted-spec =

@@ -2,7 +2,7 @@
 use mathlib.Core.Path.{ap, _∙_}
 use Prim.Native.Nat.{_/_}
 use Rattle.bench_draws.specs.Draws.{likely}
-use Rattle.bench_sweep.specs.Sweeps.{withSweep, filed, damagedRecord}
+use Rattle.bench_sweep.specs.Sweeps.{left, filed, damagedRecord}
 use borrow.Author.Needs.{needs}
 use Rattle.bench_sweep.proofs.damaged_record.Statement.{statement}
 use Rattle.bench_sweep.proofs.damaged_record.Tie as tie
@@ -22,12 +22,12 @@ filed-requires c κs = search needs
 returns : tie.Need-returns
 unfolding damagedRecord
 returns c =
-    let r = c .before .before .before .before .args .run in
+    let a = c .before .before .before .args in
     let at = c .before .before in
-    ap (withSweep (r .sweep))
+    ap (λ p. left (a .sweep) (p .sum))
     (c .filed .ensures
-    ∙ ap (λ b. filed (r .x / 65536) b (withSweep (at .damaged .result) r)) (c .before .likely .ensures)
-    ∙ ap (λ s. filed (r .x / 65536) (likely (r .x)) (withSweep s r)) (at .damaged .ensures))
+    ∙ ap (λ b. filed (a .x / 65536) b (left (at .damaged .result) (a .sum))) (c .before .likely .ensures)
+    ∙ ap (λ s. filed (a .x / 65536) (likely (a .x)) (left s (a .sum))) (at .damaged .ensures))
 
 pub damaged-record-spec : {M : Type 1} → statement M
 damaged-record-spec =

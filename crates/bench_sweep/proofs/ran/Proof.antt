@@ -1,43 +1,48 @@
 -- `bench_sweep::ran` meets its contract: before the tick of number i, i ticks are done.
-use mathlib.Core.Path.{_≡_, sym, ap, _∙_}
+use mathlib.Core.Path.{_≡_, ap, _∙_}
 use Prim.Native.Nat.{_-_, _≤_}
 use native.Mathlib.Omega.{arith}
 use borrow.Author.Needs.{needs}
 use Rattle.bench_draws.proofs.Loops.{times-none, times-more}
 use Rattle.bench_draws.specs.Draws.{times}
-use Rattle.bench_sweep.specs.Sweeps.{tick}
+use Rattle.bench_sweep.specs.Sweeps.{left, acted, withLeft, tick}
 use Rattle.bench_sweep.proofs.ran.Statement.{statement}
 use Rattle.bench_sweep.proofs.ran.Tie as tie
 
 abbrev Inv-loop : tie.InvT-loop
-Inv-loop kind ticks r₀ i₀ r i = (i ≤ ticks) × (r ≡ times i (tick kind) r₀)
+Inv-loop kind ticks sweep₀ x₀ sum₀ i₀ sweep x sum i = (i ≤ ticks) × (withLeft x (left sweep sum) ≡ times i (tick kind) (withLeft x₀ (left sweep₀ sum₀)))
 
 abbrev μ-loop : tie.MeasureT-loop
-μ-loop kind ticks r₀ i₀ r i = ticks - i
+μ-loop kind ticks sweep₀ x₀ sum₀ i₀ sweep x sum i = ticks - i
 
 loop-holds : tie.Need-loop-holds Inv-loop μ-loop
-loop-holds c = (omega arith, times-none (tick (c .args .kind)) (c .args .run))
+loop-holds c = (omega arith, times-none (tick (c .before .args .kind)) (c .before .args .run))
 
-ticked-requires : tie.Need-ticked-requires Inv-loop μ-loop
-ticked-requires c κs = search needs
+drawn-requires : tie.Need-drawn-requires Inv-loop μ-loop
+drawn-requires c κs = search needs
+
+acted-requires : tie.Need-acted-requires Inv-loop μ-loop
+acted-requires c κs = search needs
 
 add-i : tie.Need-add-i Inv-loop μ-loop
 add-i c = search needs
 
 loop-less : tie.Need-loop-less Inv-loop μ-loop
-loop-less c = omega (arith, c .before .loop-test .taken)
+loop-less c = omega (arith, c .before .before .before .loop-test .taken)
 
 loop-again : tie.Need-loop-again Inv-loop μ-loop
+unfolding tick
 loop-again c =
-    let a = c .before .before .before .args in
-    let at = c .before .before .loop in (
-      omega (arith, c .before .loop-test .taken),
-      c .ticked .ensures ∙ ap (tick (a .kind)) (at .inv .1) ∙ times-more (tick (a .kind)) (a .run) (at .i),
-    )
+    let a = c .before .before .before .before .before .before .args in
+    let at = c .before .before .before .before .loop in
+    let d = c .before .before .drawn in
+    let done =
+    ap (withLeft (d .result)) (c .before .acted .ensures) ∙ ap (λ x. withLeft x (acted (a .kind) x (left (at .sweep) (at .sum)))) (d .ensures) in
+    (omega (arith, c .before .before .before .loop-test .taken), done ∙ ap (tick (a .kind)) (at .inv .1) ∙ times-more (tick (a .kind)) (a .run) (at .i))
 
 returns : tie.Need-returns Inv-loop μ-loop
 returns c =
-    let a = c .before .before .args in
+    let a = c .before .before .before .args in
     let at = c .before .loop in
     let n : at .i ≡ a .ticks = omega (arith, at .inv .0, c .loop-test .left) in
     at .inv .1 ∙ ap (λ k. times k (tick (a .kind)) (a .run)) n
@@ -45,4 +50,13 @@ returns c =
 pub ran-spec : {M : Type 1} → statement M
 ran-spec =
     tie.close
-    (tie.spec Inv-loop μ-loop loop-holds ticked-requires add-i loop-less loop-again returns)
+    (tie.spec
+    Inv-loop
+    μ-loop
+    loop-holds
+    drawn-requires
+    acted-requires
+    add-i
+    loop-less
+    loop-again
+    returns)
