@@ -14,7 +14,7 @@ use Rattle.bench_sweep.specs.Sweeps as sweeps
 use Rattle.bench_sweep.specs.declared.Run.{Run}
 use Rattle.bench_choice.specs.declared.State.{State}
 
--- an answer as a number; tries are at most 1,088, and 65,536 keeps the number below 2^32 whatever they were
+-- an answer as a number. At most 1,085 beams are tried; the rest by 65,536 changes none, and keeps the number of any answer below 2^32
 unfoldable pub numberOf : Told Chosen → ℕ
 numberOf (refused n) = n
 numberOf (gives (camp c n)) = 1000000 + 2000 * c + n % 65536
@@ -42,5 +42,6 @@ tick kind s r = record { x = drawn (r .x); sum = mixed (r .sum) (acted kind s (d
 unfoldable pub filled : ℕ → Run
 filled seed = times sweptChannels (sweeps.tick 2) (sweeps.begun seed)
 
+-- the choices that are timed
 unfoldable pub checksum : ℕ → ℕ → ℕ → ℕ
 checksum kind ticks seed = times ticks (tick kind (filled seed .sweep)) (record { x = filled seed .x; sum = 0 }) .sum

@@ -17,6 +17,7 @@ struct State {
     sum: u32,
 }
 
+// The channels that a sweep visits.
 const SWEPT: u32 = (sweep::LAST_SWEPT - sweep::FIRST_SWEPT + 1) as u32;
 
 // An answer as a number.

@@ -19,7 +19,7 @@ abbrev pub outcomeNumber : Told Unit → ℕ
 outcomeNumber (refused n) = n
 outcomeNumber (gives tt) = 100
 
--- the counts as a number; they are at most 1,088, and 65,536 keeps the number below 2^32 whatever they were
+-- the counts as a number. They are at most 1,085; the rest by 65,536 changes none, and keeps the number of any answer below 2^32
 abbrev pub countsNumber : Told Counts → ℕ
 countsNumber (refused n) = n
 countsNumber (gives k) = k .visited % 65536 * 2000 + k .heard % 65536 + 10000
@@ -77,5 +77,6 @@ tick kind r = withLeft (drawn (r .x)) (acted kind (drawn (r .x)) (left (r .sweep
 unfoldable pub begun : ℕ → Run
 begun seed = record { sweep = freshSweep; x = seed; sum = 0 }
 
+-- the ticks that are timed
 unfoldable pub checksum : ℕ → ℕ → ℕ → ℕ
 checksum kind ticks seed = times ticks (tick kind) (begun seed) .sum

@@ -6,12 +6,12 @@ use lib.Dec.{eqb, ltb}
 use lib.IntN.{pos, natAbs}
 use Rattle.refusal.specs.Told.{Told, refused, gives}
 use Rattle.watch_rules.specs.declared.Watch.{Watch}
-use Rattle.watch_rules.specs.Told.{Call, start, newList, file, ask, verdict, Given, accepted, levels, wait, stay, moveTo, Called}
+use Rattle.watch_rules.specs.Told.{Call, start, newList, file, ask, verdict, Given, accepted, levels, wait, stay, moveTo}
 use Rattle.watch_rules.specs.Record.{fresh, called}
 use Rattle.bench_watch.specs.declared.Run.{Run}
 use Rattle.bench_draws.specs.Draws.{times, drawn, mixed, likely, anything}
 
--- an answer as a number; a count is at most 15, and 65,536 keeps the number below 2^32 whatever it were
+-- an answer as a number. A count is at most 15; the rest by 65,536 changes none, and keeps the number of any answer below 2^32
 unfoldable pub numberOf : Told Given → ℕ
 numberOf (refused n) = n
 numberOf (gives accepted) = 100
@@ -20,19 +20,15 @@ numberOf (gives wait) = 102
 numberOf (gives stay) = 103
 numberOf (gives (moveTo c)) = 2000 + c
 
--- what a call handed back: the watch goes on, the answer is mixed in
-abbrev pub after : Run → Called → Run
-after r h = record { watch = h .watch; x = r .x; sum = mixed (r .sum) (numberOf (h .answer)) }
-
 -- a number is drawn
 abbrev pub drawnOn : Run → Run
 drawnOn r = record { watch = r .watch; x = drawn (r .x); sum = r .sum }
 
--- a call on the watch
+-- a call on the watch: the one handed back goes on, the answer is mixed in
 unfoldable pub made : Call → Run → Run
-made k r = after r (called (r .watch) k)
+made k r = record { watch = called (r .watch) k .watch; x = r .x; sum = mixed (r .sum) (numberOf (called (r .watch) k .answer)) }
 
--- a call that leaves its answer alone
+-- a call on another watch, of which only the answer is kept
 unfoldable pub answered : Watch → Call → Run → Run
 answered w k r = record { watch = r .watch; x = r .x; sum = mixed (r .sum) (numberOf (called w k .answer)) }
 
@@ -63,7 +59,7 @@ damagedRecord r =
     let w = damaged (r .watch) in
     answered w (verdict (pos (x % 6001))) (answered w (ask (channelOf x)) (answered w (file (channelOf x) (likely x)) (drawnOn r)))
 
--- what is done in a tick
+-- a tick, by its kind
 unfoldable pub tick : ℕ → Run → Run
 tick kind = cond (ltb kind 3) (usualTick kind) (cond (eqb kind 3) damagedCalls damagedRecord)
 
