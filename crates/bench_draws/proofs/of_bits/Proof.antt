@@ -8,8 +8,6 @@ use mathlib.Core.Path.{_≡_, refl, sym, _∙_, subst⁻¹}
 use borrow.Author.Needs.{needs}
 use Rattle.bench_draws.proofs.of_bits.Statement.{statement}
 use Rattle.bench_draws.proofs.of_bits.Tie as tie
-use Rattle.bench_draws.proofs.of_bits.Reads as reads
-use Rattle.bench_draws.proofs.of_bits.Lts as lts
 
 is-nan : (x : Float) → isNan x ≡ true → nan ≡ x
 unfolding isNan

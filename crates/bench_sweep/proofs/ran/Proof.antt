@@ -33,12 +33,15 @@ loop-less c = omega (arith, c .before .before .before .loop-test .taken)
 loop-again : tie.Need-loop-again Inv-loop μ-loop
 unfolding tick
 loop-again c =
-    let a = c .before .before .before .before .before .before .args in
-    let at = c .before .before .before .before .loop in
-    let d = c .before .before .drawn in
-    let done =
-    ap (withLeft (d .result)) (c .before .acted .ensures) ∙ ap (λ x. withLeft x (acted (a .kind) x (left (at .sweep) (at .sum)))) (d .ensures) in
-    (omega (arith, c .before .before .before .loop-test .taken), done ∙ ap (tick (a .kind)) (at .inv .1) ∙ times-more (tick (a .kind)) (a .run) (at .i))
+    let drew = c .before .before in
+    let entered = drew .before in
+    let at = entered .before .loop in
+    let a = entered .before .before .before .args in
+    let calls = ap (withLeft (drew .drawn .result)) (c .before .acted .ensures) in
+    let number = ap (λ x. withLeft x (acted (a .kind) x (left (at .sweep) (at .sum)))) (drew .drawn .ensures) in (
+      omega (arith, entered .loop-test .taken),
+      calls ∙ number ∙ ap (tick (a .kind)) (at .inv .1) ∙ times-more (tick (a .kind)) (a .run) (at .i),
+    )
 
 returns : tie.Need-returns Inv-loop μ-loop
 returns c =

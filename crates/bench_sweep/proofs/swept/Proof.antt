@@ -1,6 +1,5 @@
 -- `bench_sweep::swept` meets its contract, by what `next` answered.
 use mathlib.Core.Path.{_≡_, sym, ap, _∙_}
-use Prim.Native.Nat.{_+_}
 use Rattle.refusal.specs.Told.{Told}
 use Rattle.readings.specs.declared.Burst.{Burst}
 use Rattle.sweep.specs.declared.NextChannel.{NextChannel}

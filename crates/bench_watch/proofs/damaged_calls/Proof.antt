@@ -1,21 +1,19 @@
 -- `bench_watch::damaged_calls` meets its contract: before the tick of number i, i ticks are done.
 use mathlib.Core.Path.{_≡_, ap, _∙_}
-use Prim.Native.Nat.{_+_, _-_, _≤_}
+use Prim.Native.Nat.{_-_, _≤_, ℕ, _/_, _%_}
 use native.Mathlib.Omega.{arith}
 use borrow.Author.Needs.{needs}
-use Prim.Native.Nat.{ℕ, _/_, _%_}
 use lib.IntN.{ℤ, pos}
 use mir.Syntax.{w32}
 use mir.Val.{toZ}
 use mir.ValLaws.{toZ-ofZ}
 use Rattle.readings.specs.declared.Burst.{Burst}
 use Rattle.watch_rules.specs.Told.{file, ask, verdict}
-use Rattle.bench_draws.specs.Draws.{anything}
+use Rattle.bench_draws.specs.Draws.{anything, times}
 use Rattle.bench_watch.specs.declared.Run.{Run}
 use Rattle.bench_watch.specs.Watches.{made, damagedCalls}
 use Rattle.bench_draws.proofs.Loops.{times-none, times-more}
-use Rattle.bench_watch.proofs.Ticks.{run, taken, noted}
-use Rattle.bench_draws.specs.Draws.{times}
+use Rattle.bench_watch.proofs.Ticks.{run, taken}
 use Rattle.bench_watch.proofs.damaged_calls.Statement.{statement}
 use Rattle.bench_watch.proofs.damaged_calls.Tie as tie
 
@@ -73,27 +71,31 @@ loop-less c = omega (arith, c .before .before .before .before .before .before .b
 loop-again : tie.Need-loop-again Inv-loop μ-loop
 unfolding damagedCalls
 loop-again c =
-    let a = c .before .before .before .before .before .before .before .before .before .before .before .before .args in
-    let at = c .before .before .before .before .before .before .before .before .before .before .loop in
-    let x = c .before .before .before .before .before .before .before .before .drawn .result in
-    let b = c .before .before .before .before .before .before .before .anything .result in
+    let three-mixed = c .before in
+    let judged = three-mixed .before in
+    let two = judged .before in
+    let asked = two .before in
+    let one = asked .before in
+    let filed = one .before in
+    let burst = filed .before in
+    let drew = burst .before in
+    let entered = drew .before in
+    let at = entered .before .loop in
+    let a = entered .before .before .before .args in
+    let x = drew .drawn .result in
+    let b = burst .anything in
+    let h = toZ w32 (x / 2) in
     let r = run (at .w) x (at .sum) in
-    let filed = c .before .before .before .before .before .before .file in
-    let asked = c .before .before .before .before .ask in
-    let judged = c .before .before .verdict in
-    let sum1 = c .before .before .before .before .before .with-answer in
-    let sum2 = c .before .before .before .with-answer2 in
-    let sum3 = c .before .with-answer3 in
-    let first = taken (file (x / 65536) b) r (filed .result) (filed .ensures) (sum1 .ensures) in
-    let second = taken (ask (x % 65536)) (run (filed .result .watch) x (sum1 .result)) (asked .result) (asked .ensures) (sum2 .ensures) in
-    let third = taken (verdict (toZ w32 (x / 2))) (run (asked .result .watch) x (sum2 .result)) (judged .result) (judged .ensures) (sum3 .ensures) in
-    let done =
-    third
-    ∙ ap (made (verdict (toZ w32 (x / 2)))) (second ∙ ap (made (ask (x % 65536))) first)
-    ∙ ap (λ h. three x r h b) (toZ-ofZ w32 (pos (x / 2)) (cast-verdict (c .before .before .before)))
-    ∙ ap (three x r (pos (x / 2))) (c .before .before .before .before .before .before .before .anything .ensures)
-    ∙ ap (λ y. three y (run (at .w) y (at .sum)) (pos (y / 2)) (anything y)) (c .before .before .before .before .before .before .before .before .drawn .ensures) in
-    (omega (arith, c .before .before .before .before .before .before .before .before .before .loop-test .taken), done ∙ ap damagedCalls (at .inv .1) ∙ times-more damagedCalls (a .run) (at .i))
+    let first = taken (file (x / 65536) (b .result)) r (filed .file .result) (filed .file .ensures) (one .with-answer .ensures) in
+    let second = taken (ask (x % 65536)) (run (filed .file .result .watch) x (one .with-answer .result)) (asked .ask .result) (asked .ask .ensures) (two .with-answer2 .ensures) in
+    let third = taken (verdict h) (run (asked .ask .result .watch) x (two .with-answer2 .result)) (judged .verdict .result) (judged .verdict .ensures) (three-mixed .with-answer3 .ensures) in
+    let calls = third ∙ ap (made (verdict h)) (second ∙ ap (made (ask (x % 65536))) first) in
+    let margin = ap (λ g. three x r g (b .result)) (toZ-ofZ w32 (pos (x / 2)) (cast-verdict two)) in
+    let floats = ap (three x r (pos (x / 2))) (b .ensures) in
+    let number = ap (λ y. three y (run (at .w) y (at .sum)) (pos (y / 2)) (anything y)) (drew .drawn .ensures) in (
+      omega (arith, entered .loop-test .taken),
+      calls ∙ margin ∙ floats ∙ number ∙ ap damagedCalls (at .inv .1) ∙ times-more damagedCalls (a .run) (at .i),
+    )
 
 returns : tie.Need-returns Inv-loop μ-loop
 returns c =

@@ -1,10 +1,8 @@
 -- `bench_watch::damaged_records` meets its contract: before the tick of number i, i ticks are done.
-use mathlib.Core.Path.{_≡_, ap, _∙_}
-use Prim.Native.Nat.{_+_, _-_, _≤_}
+use mathlib.Core.Path.{_≡_, ap, _∙_, ap₂}
+use Prim.Native.Nat.{_-_, _≤_, ℕ, _%_}
 use native.Mathlib.Omega.{arith}
 use borrow.Author.Needs.{needs}
-use Prim.Native.Nat.{ℕ, _%_}
-use mathlib.Core.Path.{ap₂}
 use lib.IntN.{ℤ, pos}
 use mir.Syntax.{w32}
 use mir.Val.{toZ}
@@ -12,12 +10,11 @@ use mir.ValLaws.{toZ-ofZ}
 use Rattle.readings.specs.declared.Burst.{Burst}
 use Rattle.watch_rules.specs.declared.Watch.{Watch}
 use Rattle.watch_rules.specs.Told.{file, ask, verdict}
-use Rattle.bench_draws.specs.Draws.{likely}
+use Rattle.bench_draws.specs.Draws.{likely, times}
 use Rattle.bench_watch.specs.declared.Run.{Run}
 use Rattle.bench_watch.specs.Watches.{channelOf, answered, damaged, damagedRecord}
 use Rattle.bench_draws.proofs.Loops.{times-none, times-more}
-use Rattle.bench_watch.proofs.Ticks.{run, taken, noted}
-use Rattle.bench_draws.specs.Draws.{times}
+use Rattle.bench_watch.proofs.Ticks.{run, noted}
 use Rattle.bench_watch.proofs.damaged_records.Statement.{statement}
 use Rattle.bench_watch.proofs.damaged_records.Tie as tie
 
@@ -75,27 +72,35 @@ loop-less c = omega (arith, c .before .before .before .before .before .before .b
 loop-again : tie.Need-loop-again Inv-loop μ-loop
 unfolding damagedRecord
 loop-again c =
-    let a = c .before .before .before .before .before .before .before .before .before .before .before .before .before .args in
-    let at = c .before .before .before .before .before .before .before .before .before .before .before .loop in
-    let x = c .before .before .before .before .before .before .before .before .before .drawn .result in
+    let judged = c .before in
+    let two = judged .before in
+    let asked = two .before in
+    let channel2 = asked .before in
+    let one = channel2 .before in
+    let filed = one .before in
+    let burst = filed .before in
+    let channel = burst .before in
+    let drew = channel .before in
+    let entered = drew .before in
+    let at = entered .before .loop in
+    let a = entered .before .before .before .args in
     let v = damaged (a .run .watch) in
-    let k = c .before .before .before .before .before .before .before .before .channel-of in
-    let l = c .before .before .before .before .channel-of2 in
-    let b = c .before .before .before .before .before .before .before .likely in
+    let x = drew .drawn .result in
+    let k = channel .channel-of in
+    let l = channel2 .channel-of2 in
+    let b = burst .likely in
+    let h = toZ w32 (x % 6001) in
     let r = run (a .run .watch) x (at .sum) in
-    let sum1 = c .before .before .before .before .before .with-answer in
-    let sum2 = c .before .before .with-answer2 in
-    let first = noted v (file (k .result) (b .result)) r (c .before .before .before .before .before .before .file .result) (c .before .before .before .before .before .before .file .ensures) (sum1 .ensures) in
-    let second = noted v (ask (l .result)) (run (r .watch) x (sum1 .result)) (c .before .before .before .ask .result) (c .before .before .before .ask .ensures) (sum2 .ensures) in
-    let third = noted v (verdict (toZ w32 (x % 6001))) (run (r .watch) x (sum2 .result)) (c .before .verdict .result) (c .before .verdict .ensures) (c .with-answer3 .ensures) in
-    let done =
-    third
-    ∙ ap (answered v (verdict (toZ w32 (x % 6001)))) (second ∙ ap (answered v (ask (l .result))) first)
-    ∙ ap (λ h. three v r h (l .result) (k .result) (b .result)) (toZ-ofZ w32 (pos (x % 6001)) (cast-verdict (c .before .before)))
-    ∙ ap (λ m. three v r (pos (x % 6001)) m (k .result) (b .result)) (l .ensures)
-    ∙ ap₂ (three v r (pos (x % 6001)) (channelOf x)) (k .ensures) (b .ensures)
-    ∙ ap (λ y. three v (run (r .watch) y (at .sum)) (pos (y % 6001)) (channelOf y) (channelOf y) (likely y)) (c .before .before .before .before .before .before .before .before .before .drawn .ensures) in
-    (omega (arith, c .before .before .before .before .before .before .before .before .before .before .loop-test .taken), done ∙ ap damagedRecord (at .inv .1) ∙ times-more damagedRecord (a .run) (at .i))
+    let first = noted v (file (k .result) (b .result)) r (filed .file .result) (filed .file .ensures) (one .with-answer .ensures) in
+    let second = noted v (ask (l .result)) (run (r .watch) x (one .with-answer .result)) (asked .ask .result) (asked .ask .ensures) (two .with-answer2 .ensures) in
+    let third = noted v (verdict h) (run (r .watch) x (two .with-answer2 .result)) (judged .verdict .result) (judged .verdict .ensures) (c .with-answer3 .ensures) in
+    let calls = third ∙ ap (answered v (verdict h)) (second ∙ ap (answered v (ask (l .result))) first) in
+    let margin = ap (λ g. three v r g (l .result) (k .result) (b .result)) (toZ-ofZ w32 (pos (x % 6001)) (cast-verdict two)) in
+    let channels = ap (λ m. three v r (pos (x % 6001)) m (k .result) (b .result)) (l .ensures) ∙ ap₂ (three v r (pos (x % 6001)) (channelOf x)) (k .ensures) (b .ensures) in
+    let number = ap (λ y. three v (run (r .watch) y (at .sum)) (pos (y % 6001)) (channelOf y) (channelOf y) (likely y)) (drew .drawn .ensures) in (
+      omega (arith, entered .loop-test .taken),
+      calls ∙ margin ∙ channels ∙ number ∙ ap damagedRecord (at .inv .1) ∙ times-more damagedRecord (a .run) (at .i),
+    )
 
 returns : tie.Need-returns Inv-loop μ-loop
 returns c =

@@ -1,11 +1,11 @@
 -- `bench_watch::usual_calls` meets its contract: before the tick of number i, i ticks are done.
 use mathlib.Core.Path.{_≡_, ap, _∙_}
-use Prim.Native.Nat.{_+_, _-_, _≤_}
+use Prim.Native.Nat.{_-_, _≤_}
 use native.Mathlib.Omega.{arith}
 use borrow.Author.Needs.{needs}
 use Rattle.bench_watch.specs.Watches.{made, usual, usualTick}
 use Rattle.bench_draws.proofs.Loops.{times-none, times-more}
-use Rattle.bench_watch.proofs.Ticks.{run, taken, noted}
+use Rattle.bench_watch.proofs.Ticks.{run, taken}
 use Rattle.bench_draws.specs.Draws.{times}
 use Rattle.bench_watch.proofs.usual_calls.Statement.{statement}
 use Rattle.bench_watch.proofs.usual_calls.Tie as tie
@@ -37,11 +37,17 @@ loop-less c = omega (arith, c .before .before .before .before .loop-test .taken)
 loop-again : tie.Need-loop-again Inv-loop μ-loop
 unfolding usualTick
 loop-again c =
-    let a = c .before .before .before .before .before .before .before .args in
-    let at = c .before .before .before .before .before .loop in
-    let r = run (at .w) (c .before .before .before .drawn .result) (at .sum) in
-    let done = taken (usual (a .kind) (r .x)) r (c .before .before .call .result) (c .before .before .call .ensures) (c .with-answer .ensures) ∙ ap (λ x. made (usual (a .kind) x) (run (at .w) x (at .sum))) (c .before .before .before .drawn .ensures) in
-    (omega (arith, c .before .before .before .before .loop-test .taken), done ∙ ap (usualTick (a .kind)) (at .inv .1) ∙ times-more (usualTick (a .kind)) (a .run) (at .i))
+    let called = c .before .before in
+    let drew = called .before in
+    let entered = drew .before in
+    let at = entered .before .loop in
+    let a = entered .before .before .before .args in
+    let r = run (at .w) (drew .drawn .result) (at .sum) in
+    let call = taken (usual (a .kind) (r .x)) r (called .call .result) (called .call .ensures) (c .with-answer .ensures) in
+    let number = ap (λ x. made (usual (a .kind) x) (run (at .w) x (at .sum))) (drew .drawn .ensures) in (
+      omega (arith, entered .loop-test .taken),
+      call ∙ number ∙ ap (usualTick (a .kind)) (at .inv .1) ∙ times-more (usualTick (a .kind)) (a .run) (at .i),
+    )
 
 returns : tie.Need-returns Inv-loop μ-loop
 returns c =
