@@ -1,0 +1,2 @@
+-- The work of `bench_choice`.
+pub mod Choices

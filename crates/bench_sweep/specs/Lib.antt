@@ -1,0 +1,2 @@
+-- The work of `bench_sweep`.
+pub mod Sweeps

@@ -1,0 +1,2 @@
+-- The work of `bench_watch`.
+pub mod Watches
