@@ -91,7 +91,8 @@ fn filled(seed: u32) -> Run
 }
 
 // The checksum after so many choices of a kind.
-pub fn checksum(kind: u32, ticks: u32, seed: u32) -> u32
+#[no_mangle]
+pub extern "C" fn bench_choice(kind: u32, ticks: u32, seed: u32) -> u32
     ensures { λ r. ⌜ r ≡ checksum kind ticks seed ⌝ }
 {
     let run = filled(seed);

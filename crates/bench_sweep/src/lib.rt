@@ -151,7 +151,8 @@ pub fn begun(seed: u32) -> Run
 }
 
 // The checksum after so many ticks of a kind, the first draw being that of the seed.
-pub fn checksum(kind: u32, ticks: u32, seed: u32) -> u32
+#[no_mangle]
+pub extern "C" fn bench_sweep(kind: u32, ticks: u32, seed: u32) -> u32
     ensures { λ r. ⌜ r ≡ checksum kind ticks seed ⌝ }
 {
     let end = ran(begun(seed), kind, ticks);

@@ -173,7 +173,8 @@ fn begun(seed: u32) -> Run
 }
 
 // The checksum after so many calls of a kind, the first draw being that of the seed.
-pub fn checksum(kind: u32, ticks: u32, seed: u32) -> u32
+#[no_mangle]
+pub extern "C" fn bench_watch(kind: u32, ticks: u32, seed: u32) -> u32
     ensures { λ r. ⌜ r ≡ checksum kind ticks seed ⌝ }
 {
     let warm = ran(begun(seed), 0, WARM_UP);

@@ -1,10 +1,10 @@
--- `bench_watch::checksum` meets its contract.
+-- `bench_watch::bench_watch` meets its contract.
 use mathlib.Core.Path.{ap, _∙_}
 use Rattle.bench_draws.specs.Draws.{times}
 use Rattle.bench_watch.specs.Watches.{tick, checksum}
 use borrow.Author.Needs.{needs}
-use Rattle.bench_watch.proofs.checksum.Statement.{statement}
-use Rattle.bench_watch.proofs.checksum.Tie as tie
+use Rattle.bench_watch.proofs.bench_watch.Statement.{statement}
+use Rattle.bench_watch.proofs.bench_watch.Tie as tie
 
 begun-requires : tie.Need-begun-requires
 begun-requires c κs = search needs
@@ -23,5 +23,5 @@ returns c =
     (c .ran2 .ensures
     ∙ ap (times (a .ticks) (tick (a .kind))) (c .before .ran .ensures ∙ ap (times 210 (tick 0)) (c .before .before .begun .ensures)))
 
-pub checksum-spec : {M : Type 1} → statement M
-checksum-spec = tie.close (tie.spec begun-requires ran-requires ran-requires-2 returns)
+pub bench-watch-spec : {M : Type 1} → statement M
+bench-watch-spec = tie.close (tie.spec begun-requires ran-requires ran-requires-2 returns)

@@ -1,10 +1,10 @@
--- `bench_sweep::checksum` meets its contract.
+-- `bench_sweep::bench_sweep` meets its contract.
 use mathlib.Core.Path.{ap, _∙_}
 use Rattle.bench_draws.specs.Draws.{times}
 use Rattle.bench_sweep.specs.Sweeps.{tick, checksum}
 use borrow.Author.Needs.{needs}
-use Rattle.bench_sweep.proofs.checksum.Statement.{statement}
-use Rattle.bench_sweep.proofs.checksum.Tie as tie
+use Rattle.bench_sweep.proofs.bench_sweep.Statement.{statement}
+use Rattle.bench_sweep.proofs.bench_sweep.Tie as tie
 
 begun-requires : tie.Need-begun-requires
 begun-requires c κs = search needs
@@ -18,5 +18,5 @@ returns c =
     let a = c .before .before .args in
     ap (λ r. r .sum) (c .ran .ensures ∙ ap (times (a .ticks) (tick (a .kind))) (c .before .begun .ensures))
 
-pub checksum-spec : {M : Type 1} → statement M
-checksum-spec = tie.close (tie.spec begun-requires ran-requires returns)
+pub bench-sweep-spec : {M : Type 1} → statement M
+bench-sweep-spec = tie.close (tie.spec begun-requires ran-requires returns)
