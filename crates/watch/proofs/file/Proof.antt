@@ -21,10 +21,12 @@ use Rattle.watch_rules.specs.Rules.{watched, burstRefusal}
 use Rattle.watch_rules.specs.Rows.{push, shown, filedRows}
 use Rattle.watch_rules.specs.Record.{rows, rowOf, trackOf, recordOf, trackFine, wellFormed, called}
 use Rattle.watch_rules.proofs.Encode.{read-record}
-use Rattle.watch_rules.proofs.Calls.{called-unformed, called-refused, called-granted, refuse-now, refuse-later, formed-short}
-use Rattle.watch.specs.Code.{nothing, back}
-use Rattle.watch.proofs.Watched.{place-watched, place-unwatched, found-place, found-below, found-fine}
-use Rattle.watch.proofs.Stores.{watch-of, watch-pushed}
+use Rattle.watch_rules.proofs.Calls.{called-unformed, called-refused, called-granted, refuse-now, refuse-later}
+use Rattle.watch_record.specs.Code.{nothing, back}
+use Rattle.watch_list.proofs.Watched.{found-place, found-below}
+use Rattle.watch_list.proofs.Stores.{watch-of}
+use Rattle.watch.proofs.Found.{place-watched, place-unwatched, found-fine}
+use Rattle.watch.proofs.Filed.{watch-pushed}
 use Rattle.watch.proofs.file.Statement.{statement}
 use Rattle.watch.proofs.file.Tie as tie
 
@@ -62,7 +64,7 @@ returns c =
     ∙ sym (called-unformed (a .w) (file (a .channel) (a .burst)) (sym (c .before .before .well-formed .ensures) ∙ not-true _ (c .before .if1 .taken)))
 
 place-requires : tie.Need-place-requires
-place-requires c κs = formed-short (c .before .before .before .args .w) (formed (c .before))
+place-requires c κs = search needs
 
 refused-requires-2 : tie.Need-refused-requires-2
 refused-requires-2 c κs = search needs
@@ -81,8 +83,8 @@ burst-to-hundredths-requires c κs = search needs
 enum-told : tie.Need-enum-told
 enum-told c = search needs
 
-accepted-requires : tie.Need-accepted-requires
-accepted-requires c κs = search needs
+answered-requires : tie.Need-answered-requires
+answered-requires c κs = search needs
 
 enum-told-2 : tie.Need-enum-told-2
 enum-told-2 c = search needs
@@ -112,8 +114,8 @@ mul-u c = let h = below (found-at (c .before .before .before)) in omega arith
 element-set-from-u : tie.Need-element-set-from-u
 element-set-from-u c = below (found-at (c .before .before .before))
 
-accepted-requires-2 : tie.Need-accepted-requires-2
-accepted-requires-2 c κs = search needs
+answered-requires-2 : tie.Need-answered-requires-2
+answered-requires-2 c κs = search needs
 
 -- what is granted of a burst that is not refused
 granted : (c : tie.Else2) (b : BurstResult) → burstOf (entry c .args .burst) ≡ gives b
@@ -130,7 +132,7 @@ returns-3 c =
     let e2 = told .before .before .before in
     let a = entry e2 .args in
     let b : burstOf (a .burst) ≡ gives missed = sym (told .before .before .burst-to-hundredths .ensures .0) ∙ ap toldBurst (told .enum-told .given .1) in
-    c .accepted .ensures
+    c .answered .ensures
     ∙ ap (λ (w : Watch). back w (gives accepted)) (sym (read-record (a .w) (formed-there e2) .back))
     ∙ sym (granted e2 missed b)
 
@@ -156,7 +158,7 @@ returns-5 c =
     let there = found-place (a .w) (a .channel) f p (e2 .if2 .left) in
     let b : burstOf (a .burst) ≡ gives (heard (r .level) (r .quality)) =
     sym (kt .before .before .before .burst-to-hundredths .ensures .0) ∙ ap toldBurst (kt .before .r .given .1) in
-    c .accepted2 .ensures
+    c .answered2 .ensures
     ∙ ap (λ (t : Track). back (watch-of (a .w .watched) (set (a .w .tracks) (e2 .before .place .result) t)) (gives accepted)) (c .before .pushed .ensures)
     ∙ ap (λ (y : ℤ). back (watch-of (a .w .watched) (set (a .w .tracks) (e2 .before .place .result) (trackOf (push y (rowOf (getD (a .w .tracks) (e2 .before .place .result) nothing)))))) (gives accepted)) (toZ-ofZ (record { sfits = st .struct-told .given .0 .1 }))
     ∙ ap (λ (i : ℕ). back (watch-of (a .w .watched) (set (a .w .tracks) i (trackOf (push (r .level) (rowOf (getD (a .w .tracks) i nothing)))))) (gives accepted)) p
@@ -175,7 +177,7 @@ file-spec =
     returns-2
     burst-to-hundredths-requires
     enum-told
-    accepted-requires
+    answered-requires
     enum-told-2
     refused-requires-3
     enum-known-r
@@ -184,7 +186,7 @@ file-spec =
     pushed-requires
     mul-u
     element-set-from-u
-    accepted-requires-2
+    answered-requires-2
     returns-3
     returns-4
     returns-5)

@@ -12,7 +12,8 @@ use Rattle.watch_rules.proofs.Depth.{depth-within}
 use Rattle.watch_rules.proofs.Laws.{take-none}
 use Rattle.watch_rules.proofs.Encode.{track-count, track-long, track-levels-fine}
 use Rattle.watch.specs.Code.{belowTop, allBelow, levelSpan}
-use Rattle.watch.proofs.Distance.{distance-most, level-tested}
+use Rattle.watch_record.proofs.Scan.{level-tested}
+use Rattle.watch.proofs.Distance.{distance-most}
 use Rattle.watch.proofs.Sums.{below-more, range-at}
 use Rattle.watch.proofs.total.Statement.{statement}
 use Rattle.watch.proofs.total.Tie as tie

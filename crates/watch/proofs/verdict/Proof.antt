@@ -28,8 +28,10 @@ use Rattle.watch_rules.proofs.Laws.{clash, and-right}
 use Rattle.watch_rules.proofs.Encode.{read-record}
 use Rattle.watch_rules.proofs.Calls.{called-unformed, called-refused, called-granted, refuse-now, refuse-later, formed-tracks, formed-short}
 use Rattle.watch.specs.declared.Pick.{Pick}
-use Rattle.watch.specs.Code.{nothing, back, servingOf, allBelow, scan, nobody, chosen}
-use Rattle.watch.proofs.NewList.{serving-is, serving-none, serving-some}
+use Rattle.watch_record.specs.Code.{nothing, back}
+use Rattle.watch_list.specs.Code.{servingOf}
+use Rattle.watch.specs.Code.{allBelow, scan, nobody, chosen}
+use Rattle.watch_list.proofs.NewList.{serving-is, serving-none, serving-some}
 use Rattle.watch.proofs.Search.{server, server-fine, watch-waits, watch-settled}
 use Rattle.watch.proofs.verdict.Statement.{statement}
 use Rattle.watch.proofs.verdict.Tie as tie
