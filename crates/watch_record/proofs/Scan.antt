@@ -1,18 +1,17 @@
 -- The tests of a record as the code makes them, from place to place: what is left to test from a place on, and one place more.
 use Prim.Native.Nat.{ℕ, zero, suc, _+_, _-_, _≤_, _<_, suc-le-suc}
 use mathlib.Core.Path.{_≡_, refl, sym, ap, ap₂, _∙_}
-use mathlib.Core.Bool.{Bool, true, false, not, _&&_, _||_, and-false, or-assoc, or-true}
+use mathlib.Core.Bool.{Bool, true, false, not, cond, _&&_, _||_, or-assoc}
 use mathlib.Core.List.{List, [], _∷_, _++_, map}
 use native.Mathlib.Omega.{arith}
 use native.Mathlib.Numerals.{add-one}
-use lib.Dec.{eqb}
+use lib.Dec.{eqb, leb, ltb}
 use lib.IntN.{ℤ, pos, negsuc}
 use lib.ListN.{length, drop, take, getD, length-take, drop-of-length-le}
 use lib.Seq.{drop-cons, take-suc, split-at, take-take, getD-take}
 use mir.Syntax.{w32}
-use mir.Val.{SFits, toZ, ofZ}
-use mir.Facts.{toZ-ofZ}
-use borrow.Author.Tests.{eq-eqb, ne-eqb}
+use mir.Val.{SFits, ofZ}
+use borrow.Author.Tests.{ne-eqb, leb-true, leb-false, ltb-true, ltb-false}
 use Rattle.watch_rules.specs.declared.Track.{Track}
 use Rattle.watch_rules.specs.Lists.{mem, distinct}
 use Rattle.readings.specs.Ranges.{levelInRange}
@@ -37,43 +36,42 @@ pub tracks-parted : Parted tracksFine trackFine trackUnused
 tracks-parted = record { none = refl; lacking = λ n. refl; used = λ n t ts. refl; free = λ t ts. refl }
 
 module _ {A : Type 0} {F : ℕ → List A → Bool} {f g : A → Bool} (parted : Parted F f g) where
-  -- more than there are
-  pub too-many : (n : ℕ) (l : List A) → length l < n → F n l ≡ false
-  too-many zero l h = absurd (omega arith)
-  too-many (suc n) [] h = parted .lacking n
-  too-many (suc n) (x ∷ l) h = parted .used n x l ∙ ap (λ (b : Bool). f x && b) (too-many n l (omega arith)) ∙ and-false (f x)
+  -- one place more: by f among the first n, by g after them
+  pub one-place : (n j : ℕ) (l : List A) (d : A) → j < length l
+      → F (n - j) (drop j l) ≡ (cond (ltb j n) (f (getD l j d)) (g (getD l j d)) && F (n - (j + 1)) (drop (j + 1) l))
+  one-place n j l d inside = byCase (ltb j n) among after
+    where
+      split : drop j l ≡ getD l j d ∷ drop (j + 1) l
+      split = drop-cons l j d inside ∙ ap (λ (k : ℕ). getD l j d ∷ drop k l) (sym (add-one j))
 
-  -- one place more, among the first n and after them
-  module _ (n j : ℕ) (l : List A) (d : A) (inside : j < length l) where
-    split : drop j l ≡ getD l j d ∷ drop (j + 1) l
-    split = drop-cons l j d inside ∙ ap (λ (k : ℕ). getD l j d ∷ drop k l) (sym (add-one j))
+      rest : Bool → Bool
+      rest b = cond b (f (getD l j d)) (g (getD l j d)) && F (n - (j + 1)) (drop (j + 1) l)
 
-    pub one-used : j < n → F (n - j) (drop j l) ≡ (f (getD l j d) && F (n - (j + 1)) (drop (j + 1) l))
-    one-used h =
-        let e : n - j ≡ suc (n - (j + 1)) = omega arith in
-        ap₂ F e split ∙ parted .used (n - (j + 1)) (getD l j d) (drop (j + 1) l)
+      among : ltb j n ≡ true → F (n - j) (drop j l) ≡ rest (ltb j n)
+      among q =
+          let e : n - j ≡ suc (n - (j + 1)) = omega (arith, ltb-true j n q) in
+          ap₂ F e split ∙ parted .used (n - (j + 1)) (getD l j d) (drop (j + 1) l) ∙ ap rest (sym q)
 
-    pub one-free : n ≤ j → F (n - j) (drop j l) ≡ (g (getD l j d) && F (n - (j + 1)) (drop (j + 1) l))
-    one-free h =
-        let e : n - j ≡ 0 = omega arith in
-        let k : 0 ≡ n - (j + 1) = omega arith in
-        ap₂ F e split ∙ parted .free (getD l j d) (drop (j + 1) l) ∙ ap (λ (m : ℕ). g (getD l j d) && F m (drop (j + 1) l)) k
+      after : ltb j n ≡ false → F (n - j) (drop j l) ≡ rest (ltb j n)
+      after q =
+          let e : n - j ≡ 0 = omega (arith, ltb-false j n q) in
+          let k : 0 ≡ n - (j + 1) = omega (arith, ltb-false j n q) in
+          ap₂ F e split
+          ∙ parted .free (getD l j d) (drop (j + 1) l)
+          ∙ ap (λ (m : ℕ). g (getD l j d) && F m (drop (j + 1) l)) k
+          ∙ ap rest (sym q)
 
-  pub none-left-over : (n : ℕ) (l : List A) (j : ℕ) → n ≤ j → length l ≤ j → F (n - j) (drop j l) ≡ true
-  none-left-over n l j h k = let e : n - j ≡ 0 = omega arith in ap₂ F e (drop-of-length-le l k) ∙ parted .none
+  -- past the last of them: were there n?
+  pub at-end : (n j : ℕ) (l : List A) → length l ≤ j → F (n - j) (drop j l) ≡ leb n j
+  at-end n j l h =
+      byCase (leb n j)
+      (λ q. let e : n - j ≡ 0 = omega (arith, leb-true n j q) in ap₂ F e (drop-of-length-le l h) ∙ parted .none ∙ sym q)
+      (λ q. let e : n - j ≡ suc (n - (j + 1)) = omega (arith, leb-false n j q) in ap₂ F e (drop-of-length-le l h) ∙ parted .lacking (n - (j + 1)) ∙ sym q)
 
 -- the code asks of a level whether its bits are 0
-pub bits-zero : (x : ℤ) → ofZ w32 x ≡ 0 → SFits w32 x → isZero x ≡ true
-bits-zero (pos n) e f = eq-eqb n 0 e
-bits-zero (negsuc n) e f = absurd (omega (arith, f .sfits))
-
-pub bits-not-zero : (x : ℤ) → (ofZ w32 x ≡ 0 → ⊥) → isZero x ≡ false
-bits-not-zero (pos n) e = ne-eqb n 0 e
-bits-not-zero (negsuc n) e = refl
-
--- what a test of a level's bits says of the level
-pub level-tested : (x : ℤ) {r : Bool} → SFits w32 x → r ≡ levelInRange (toZ w32 (ofZ w32 x)) → levelInRange x ≡ r
-level-tested x f e = ap levelInRange (sym (toZ-ofZ f)) ∙ sym e
+pub bits-zero : (x : ℤ) → SFits w32 x → eqb (ofZ w32 x) 0 ≡ isZero x
+bits-zero (pos n) f = refl
+bits-zero (negsuc n) f = let h : ofZ w32 (negsuc n) ≡ 0 → ⊥ = λ e. omega (arith, f .sfits) in ne-eqb (ofZ w32 (negsuc n)) 0 h
 
 -- ---- channels that differ
 pub channels-rows : (ts : List Track) → channels (map rowOf ts) ≡ channelsOf ts

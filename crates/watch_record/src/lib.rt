@@ -1,6 +1,7 @@
 // What is asked of the record of a watch: a fresh one, whether it is well formed, and a channel's place in it. Document 01, section The
 // watch. The calls of the watch stand on this; users name `fresh` and `check` as `watch::fresh` and `watch::check`.
 ghost use mathlib.Core.Path.{_≡_};
+ghost use mathlib.Core.Bool.{cond};
 ghost use mathlib.Core.List.{[]};
 ghost use Prim.Native.Nat.{_≤_};
 ghost use lib.ListN.{take};
@@ -10,7 +11,7 @@ ghost use Rattle.watch_rules.specs.Lists.{distinct};
 ghost use Rattle.watch_rules.specs.Limits.{room};
 ghost use Rattle.watch_rules.specs.Told.{told, toldHanded};
 ghost use Rattle.watch_rules.specs.Rows.{row};
-ghost use Rattle.watch_rules.specs.Record.{fresh as freshWatch, trackOf, trackFine, trackUnused, tracksFine, levelsFine, wellFormed, tested};
+ghost use Rattle.watch_rules.specs.Record.{fresh as freshWatch, trackOf, isZero, levelsFine, trackFine, trackUnused, tracksFine, wellFormed, tested};
 ghost use Rattle.watch_record.specs.Code.{back, placeOf, channelsOf};
 use readings::LEVEL_HIGHEST;
 use readings::LEVEL_LOWEST;
@@ -63,11 +64,14 @@ pub fn refused(w: Watch, why: Refusal) -> Handed
     answered(w, Answer::Refused(why))
 }
 
-// A level lies in its range.
-fn level_ok(level: i32) -> bool
-    ensures { λ r. ⌜ r ≡ levelInRange level ⌝ }
+// A level that is used lies in its range; one that is not is 0.
+fn level_ok(level: i32, used: bool) -> bool
+    ensures { λ r. ⌜ r ≡ cond used (levelInRange level) (isZero level) ⌝ }
 {
-    (LEVEL_LOWEST <= level) & (level <= LEVEL_HIGHEST)
+    if used {
+        return (LEVEL_LOWEST <= level) & (level <= LEVEL_HIGHEST);
+    }
+    level == 0
 }
 
 // A track's levels lie in the range as far as its count, and are 0 beyond it.
@@ -75,73 +79,38 @@ fn levels_ok(t: Track) -> bool
     ensures { λ r. ⌜ r ≡ levelsFine (t .count) (t .levels) ⌝ }
 {
     let n = t.count;
-    if n > CAPACITY {
-        return false;
-    }
     let mut j = 0;
     while j < CAPACITY {
         let x = t.levels[j];
-        if j < n {
-            if !level_ok(x) {
-                return false;
-            }
-        } else {
-            if x != 0 {
-                return false;
-            }
+        if !level_ok(x, j < n) {
+            return false;
         }
         j += 1;
     }
-    true
+    n <= CAPACITY
 }
 
-fn track_ok(t: Track) -> bool
-    ensures { λ r. ⌜ r ≡ trackFine t ⌝ }
+// A track that is used is fine; one that is not is all zero.
+fn track_ok(t: Track, used: bool) -> bool
+    ensures { λ r. ⌜ r ≡ cond used (trackFine t) (trackUnused t) ⌝ }
 {
-    if t.channel > CHANNEL_HIGHEST {
-        return false;
-    }
-    if t.count > DEPTH {
-        return false;
-    }
-    levels_ok(t)
-}
-
-// All zero.
-fn unused_ok(t: Track) -> bool
-    ensures { λ r. ⌜ r ≡ trackUnused t ⌝ }
-{
-    if t.channel > 0 {
-        return false;
-    }
-    if t.count > 0 {
-        return false;
-    }
-    track_ok(t)
+    let zero = (t.channel == 0) & (t.count == 0);
+    (used | zero) & (t.channel <= CHANNEL_HIGHEST) & (t.count <= DEPTH) & levels_ok(t)
 }
 
 // The first n tracks are fine, and the others unused.
 fn tracks_ok(tracks: [Track; ROOM], n: usize) -> bool
     ensures { λ r. ⌜ r ≡ tracksFine n tracks ⌝ }
 {
-    if n > ROOM {
-        return false;
-    }
     let mut i = 0;
     while i < ROOM {
         let t = tracks[i];
-        if i < n {
-            if !track_ok(t) {
-                return false;
-            }
-        } else {
-            if !unused_ok(t) {
-                return false;
-            }
+        if !track_ok(t, i < n) {
+            return false;
         }
         i += 1;
     }
-    true
+    n <= ROOM
 }
 
 // The place of the first of n tracks that has the channel; n where none has, or as many as there are if n is more.
