@@ -1,20 +1,23 @@
 -- A new list: the parts of its test in the code's order, and a watch built channel by channel, each with the levels that it had.
 use Prim.Native.Nat.{ℕ, zero, suc, _+_, _≤_, _<_}
 use mathlib.Core.Path.{_≡_, refl, sym, ap, _∙_}
-use mathlib.Core.Bool.{Bool, true, false, not, _&&_}
+use mathlib.Core.Bool.{Bool, true, false, not, cond, _&&_, _||_}
 use mathlib.Core.List.{List, [], _∷_, _++_, map}
 use mathlib.Core.Option.{Option}
 use native.Mathlib.Omega.{arith}
-use lib.Dec.{leb}
+use lib.Dec.{eqb, leb}
 use lib.ListN.{length, take, getD, set, length-map}
 use lib.Seq.{length-take-le}
+use borrow.Author.Tests.{eq-eqb, ne-eqb}
 use Rattle.watch_rules.specs.declared.Track.{Track}
 use Rattle.watch_rules.specs.declared.Watch.{Watch}
 use Rattle.watch_rules.specs.Lists.{mem, distinct, every, is, padTo}
 use Rattle.watch_rules.specs.Limits.{channelInRange, listLimit, room}
 use Rattle.watch_rules.specs.Rules.{serves, listSound}
 use Rattle.watch_rules.specs.Rows.{Row, row, levelsOf, first, relisted, listed}
-use Rattle.watch_rules.specs.Record.{rowOf, rows, trackOf, unused, recordOf, wellFormed}
+use Rattle.watch_rules.specs.Record.{rowOf, rows, trackOf, unused, recordOf, trackFine, tracksFine, wellFormed}
+use Rattle.watch_rules.proofs.Laws.{clash, and-left}
+use Rattle.watch_rules.proofs.Encode.{track-read}
 use Rattle.watch_rules.proofs.Calls.{formed-long, formed-short}
 use Rattle.watch_rules.proofs.Relist.{length-relisted}
 use Rattle.watch_record.specs.Code.{nothing}
@@ -51,12 +54,11 @@ serving-some zero s h = absurd (h refl)
 serving-some (suc n) s h = refl
 
 -- nobody serves, or s does
-pub not-serving-none : (n s : ℕ) (l : List ℕ) → n ≡ 0 → every (λ k. not (is (servingOf n s) k)) l ≡ true
-not-serving-none n s l e = ap (λ (m : ℕ). every (λ k. not (is (servingOf m s) k)) l) e ∙ every-true l
-
-pub not-serving : (n s : ℕ) (l : List ℕ) → (n ≡ 0 → ⊥) → every (λ k. not (is (servingOf n s) k)) l ≡ not (mem s l)
-not-serving zero s l h = absurd (h refl)
-not-serving (suc n) s l h = none-is-mem s l
+pub not-serving : (n s : ℕ) (l : List ℕ) → every (λ k. not (is (servingOf n s) k)) l ≡ (eqb n 0 || not (mem s l))
+not-serving zero s l = every-true l
+not-serving (suc n) s l =
+    let h : suc n ≡ 0 → ⊥ = λ e. omega arith in
+    none-is-mem s l ∙ ap (λ (b : Bool). b || not (mem s l)) (sym (ne-eqb (suc n) 0 h))
 
 -- ---- the watch
 
@@ -92,6 +94,15 @@ module _ (s : ℕ) (rs : List Row) where
       ∙ padTo-snoc room unused xs a (omega arith)
       ∙ ap (padTo room unused) (sym (tracks-snoc (take i l) (getD l i 0)))
       ∙ ap tracksFor (sym (more l i h))
+
+-- the first track is that of the serving channel's row
+pub first-track : (n : ℕ) (ts : List Track) → 0 < n → tracksFine n ts ≡ true
+    → getD ts 0 nothing ≡ trackOf (row (getD ts 0 nothing .channel) (levelsOf (getD ts 0 nothing .channel) (map rowOf (take n ts))))
+first-track zero ts h e = absurd (omega arith)
+first-track (suc n) [] h e = clash e refl
+first-track (suc n) (t ∷ ts) h e =
+    sym (ap (λ (b : Bool). trackOf (row (t .channel) (cond b (rowOf t .levels) (levelsOf (t .channel) (map rowOf (take n ts)))))) (eq-eqb (t .channel) (t .channel) refl)
+    ∙ track-read t (and-left (trackFine t) (tracksFine n ts) e) .back)
 
 -- what a new list makes of a watch that has a serving channel
 listed-is : (n : ℕ) (ts : List Track) (l : List ℕ) → (n ≡ 0 → ⊥) → n ≤ length ts

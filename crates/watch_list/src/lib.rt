@@ -4,14 +4,15 @@
 ghost use mathlib.Core.Path.{_≡_};
 ghost use mathlib.Core.Bool.{true, _&&_};
 ghost use mathlib.Core.List.{map};
-ghost use Prim.Native.Nat.{_≤_};
-ghost use lib.ListN.{length, take};
+ghost use Prim.Native.Nat.{_≤_, _<_};
+ghost use lib.ListN.{length, take, getD};
 ghost use Rattle.watch_rules.specs.Lists.{mem, every, distinct};
 ghost use Rattle.watch_rules.specs.Limits.{channelInRange, listLimit, room};
 ghost use Rattle.watch_rules.specs.Told.{Call, toldHanded};
 ghost use Rattle.watch_rules.specs.Rules.{listSound};
 ghost use Rattle.watch_rules.specs.Rows.{relisted};
 ghost use Rattle.watch_rules.specs.Record.{recordOf, rowOf, tracksFine, called};
+ghost use Rattle.watch_record.specs.Code.{nothing};
 ghost use Rattle.watch_list.specs.Code.{keptFrom, servingOf};
 use refusal::Refusal;
 use watch_record::answered;
@@ -68,10 +69,7 @@ fn channels_ok(list: &[u16]) -> bool
     let mut i = 0;
     while i < n {
         let c = list[i];
-        if c > CHANNEL_HIGHEST {
-            return false;
-        }
-        if has(list, i, c) {
+        if (c > CHANNEL_HIGHEST) | has(list, i, c) {
             return false;
         }
         i += 1;
@@ -87,13 +85,7 @@ fn list_ok(list: &[u16], watched: usize, serving: u16) -> bool
     if n > LIST_LIMIT {
         return false;
     }
-    if !channels_ok(list) {
-        return false;
-    }
-    if watched == 0 {
-        return true;
-    }
-    !has(list, n, serving)
+    channels_ok(list) & ((watched == 0) | !has(list, n, serving))
 }
 
 // The channel with the levels of the track at place p; without levels where p is not below n.
@@ -109,14 +101,13 @@ fn kept(old: [Track; ROOM], n: usize, p: usize, channel: u16) -> Track
     empty(channel)
 }
 
-// The serving channel and the channels of the list, in this order, each with the levels that it had.
-fn relist(old: [Track; ROOM], n: usize, serving: u16, list: &[u16]) -> Watch
-    requires { ⌜ (n ≤ room) × (tracksFine n old ≡ true) × (length (now list) ≤ listLimit) ⌝ }
-    ensures { λ r. ⌜ r ≡ recordOf (relisted serving (now (list .entry)) (map rowOf (take n old))) ⌝ }
+// The serving channel, which is the first, and the channels of the list, in this order, each with the levels that it had.
+fn relist(old: [Track; ROOM], n: usize, list: &[u16]) -> Watch
+    requires { ⌜ (0 < n) × (n ≤ room) × (tracksFine n old ≡ true) × (length (now list) ≤ listLimit) ⌝ }
+    ensures { λ r. ⌜ r ≡ recordOf (relisted (getD old 0 nothing .channel) (now (list .entry)) (map rowOf (take n old))) ⌝ }
 {
     let mut v = fresh();
-    let first = place(old, n, serving);
-    let s = kept(old, n, first, serving);
+    let s = old[0];
     v.tracks[0] = s;
     let k = list.len();
     let mut i = 0;
@@ -149,7 +140,7 @@ pub fn new_list(w: Watch, list: &[u16]) -> Handed
     if n == 0 {
         return refused(w, Refusal::NotWatched);
     }
-    let listed = relist(tracks, n, s.channel, list);
+    let listed = relist(tracks, n, list);
     answered(listed, Answer::Accepted)
 }
 
@@ -163,10 +154,7 @@ pub fn move_to(w: Watch, channel: u16) -> Handed
     let n = w.watched;
     let tracks = w.tracks;
     let p = place(tracks, n, channel);
-    if p == n {
-        return refused(w, Refusal::NotWatched);
-    }
-    if p == 0 {
+    if (p == n) | (p == 0) {
         return refused(w, Refusal::NotWatched);
     }
     let mut moved = w;

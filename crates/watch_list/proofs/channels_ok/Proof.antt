@@ -1,15 +1,17 @@
 -- As far as the list was looked through, its channels were in range and differed; one that is not, or comes again, settles the whole.
-use Prim.Native.Nat.{ℕ, _-_, _≤_}
+use Prim.Native.Nat.{ℕ, _-_, _≤_, _<_}
 use mathlib.Core.Path.{_≡_, refl, sym, ap, ap₂, _∙_, subst}
 use mathlib.Core.Bool.{Bool, true, _&&_, and-false}
 use mathlib.Core.List.{List}
 use native.Mathlib.Omega.{arith}
 use borrow.Author.Needs.{needs}
-use borrow.Author.Tests.{le-leb, lt-leb}
+use borrow.Author.Tests.{le-leb, lt-leb, ltb-true, ltb-false}
+use lib.Dec.{ltb}
 use lib.ListN.{length, take, getD}
 use lib.Seq.{take-length}
-use Rattle.watch_rules.specs.Lists.{every, distinct}
+use Rattle.watch_rules.specs.Lists.{mem, every, distinct}
 use Rattle.watch_rules.specs.Limits.{channelHighest, channelInRange}
+use Rattle.watch_rules.proofs.Laws.{byCase, or-true-right, or-false-left, or-false-right}
 use Rattle.watch_list.proofs.ListScan.{sound-more, every-fails, distinct-fails}
 use Rattle.watch_list.proofs.channels_ok.Statement.{statement}
 use Rattle.watch_list.proofs.channels_ok.Tie as tie
@@ -29,20 +31,21 @@ mul-c c = search needs
 shared-slice-read-c : tie.Need-shared-slice-read-c Inv-loop μ-loop
 shared-slice-read-c c = search needs
 
-returns : tie.Need-returns Inv-loop μ-loop
-returns c =
-    let at = c .before .before .before in
-    let l = at .before .before .args .list .now in
-    sym (ap (λ (b : Bool). b && distinct l) (every-fails l (at .loop .i) (c .before .before .loop-test .taken) channelInRange (lt-leb (getD l (at .loop .i) 0) channelHighest (c .if1 .taken))))
-
 has-requires : tie.Need-has-requires Inv-loop μ-loop
 has-requires c κs = search needs
 
-returns-2 : tie.Need-returns-2 Inv-loop μ-loop
-returns-2 c =
-    let at = c .before .before .before .before .before in
+returns : tie.Need-returns Inv-loop μ-loop
+returns c =
+    let at = c .before .before .before .before in
     let l = at .before .before .args .list .now in
-    sym (ap (λ (b : Bool). every channelInRange l && b) (distinct-fails l (at .loop .i) (omega arith) (sym (c .before .has .ensures) ∙ c .if2 .taken)) ∙ and-false (every channelInRange l))
+    let i = at .loop .i in
+    let x = getD l i 0 in
+    let inside : i < length l = c .before .before .before .loop-test .taken in
+    byCase (ltb channelHighest x)
+    (λ q. sym (ap (λ (b : Bool). b && distinct l) (every-fails l i inside channelInRange (lt-leb x channelHighest (ltb-true channelHighest x q)))))
+    (λ q.
+    let again : mem x (take i l) ≡ true = sym (c .before .has .ensures) ∙ or-true-right (ltb channelHighest x) (c .before .has .result) (c .if1 .taken) q in
+    sym (ap (λ (b : Bool). every channelInRange l && b) (distinct-fails l i inside again) ∙ and-false (every channelInRange l)))
 
 add-i : tie.Need-add-i Inv-loop μ-loop
 add-i c = search needs
@@ -52,14 +55,18 @@ loop-less c = search needs
 
 loop-again : tie.Need-loop-again Inv-loop μ-loop
 loop-again c =
-    let at = c .before .before .before .before .before in
+    let at = c .before .before .before .before in
     let l = at .before .before .args .list .now in
     let i = at .loop .i in
-    let m = sound-more l i (omega arith) channelInRange (at .loop .inv .1) (at .loop .inv .2) (le-leb (getD l i 0) channelHighest (omega arith)) (sym (c .before .has .ensures) ∙ c .if2 .left) in
+    let x = getD l i 0 in
+    let e = c .if1 .left in
+    let m = sound-more l i (omega arith) channelInRange (at .loop .inv .1) (at .loop .inv .2)
+    (le-leb x channelHighest (ltb-false channelHighest x (or-false-left (ltb channelHighest x) (c .before .has .result) e)))
+    (sym (c .before .has .ensures) ∙ or-false-right (ltb channelHighest x) (c .before .has .result) e) in
     (omega arith, m .0, m .1)
 
-returns-3 : tie.Need-returns-3 Inv-loop μ-loop
-returns-3 c =
+returns-2 : tie.Need-returns-2 Inv-loop μ-loop
+returns-2 c =
     let at = c .before in
     let l = at .before .before .args .list .now in
     let e : at .loop .i ≡ length l = omega arith in
@@ -75,10 +82,9 @@ channels-ok-spec =
     loop-holds
     mul-c
     shared-slice-read-c
-    returns
     has-requires
-    returns-2
+    returns
     add-i
     loop-less
     loop-again
-    returns-3)
+    returns-2)

@@ -6,7 +6,8 @@ use mathlib.Core.Bool.{true}
 use mathlib.Core.Option.{none}
 use native.Mathlib.Omega.{arith}
 use borrow.Author.Needs.{needs}
-use borrow.Author.Tests.{not-true, not-false}
+use borrow.Author.Tests.{not-true, not-false, eqb-true, eq-eqb}
+use lib.Dec.{eqb}
 use lib.ListN.{getD, set}
 use Rattle.refusal.specs.declared.Refusal.the-variants.{NotWatched}
 use Rattle.refusal.specs.Told.{gives}
@@ -15,6 +16,7 @@ use Rattle.watch_rules.specs.Limits.{room}
 use Rattle.watch_rules.specs.Told.{move, accepted}
 use Rattle.watch_rules.specs.Record.{wellFormed}
 use Rattle.watch_rules.proofs.Calls.{called-unformed, called-refused, called-granted, refuse-now, refuse-later}
+use Rattle.watch_rules.proofs.Laws.{byCase, clash, or-true-right, or-false-left, or-false-right}
 use Rattle.watch_record.specs.Code.{nothing, back}
 use Rattle.watch_list.proofs.Watched.{placeIn, found-place, found-below, outside-no-neighbour, serving-no-neighbour, later-neighbour}
 use Rattle.watch_list.proofs.Stores.{watch-of, watch-moved}
@@ -28,8 +30,20 @@ formed c = sym (c .before .well-formed .ensures) ∙ not-false _ (c .if1 .left)
 abbrev entry : tie.Else2 → tie.Start
 entry c = c .before .before .before .before .before
 
+-- it is not outside, and not at the first place
+inside : (c : tie.Else2) → c .before .place .result ≡ entry c .args .w .watched → ⊥
+inside c z =
+    let p = c .before .place .result in
+    let n = entry c .args .w .watched in
+    clash (eq-eqb p n z) (or-false-left (eqb p n) (eqb p 0) (c .if2 .left))
+
+later : (c : tie.Else2) → c .before .place .result ≡ 0 → ⊥
+later c z =
+    let p = c .before .place .result in
+    clash (eq-eqb p 0 z) (or-false-right (eqb p (entry c .args .w .watched)) (eqb p 0) (c .if2 .left))
+
 below : (c : tie.Else2) → c .before .place .result < room
-below c = found-below (entry c .args .w) (entry c .args .channel) (formed (c .before .before .before)) (c .before .place .ensures) (c .if2 .left)
+below c = found-below (entry c .args .w) (entry c .args .channel) (formed (c .before .before .before)) (c .before .place .ensures) (inside c)
 
 well-formed-requires : tie.Need-well-formed-requires
 well-formed-requires c κs = search needs
@@ -53,53 +67,46 @@ returns-2 : tie.Need-returns-2
 returns-2 c =
     let e1 = c .before .before .before .before in
     let a = e1 .before .before .args in
+    let f = formed e1 in
+    let p = c .before .before .place .result in
+    let e = sym (c .before .before .place .ensures) in
     c .refused2 .ensures
-    ∙ sym (called-refused (a .w) (move (a .channel)) (formed e1) NotWatched
-    (refuse-now NotWatched none (outside-no-neighbour (a .w) (a .channel) (formed e1) (sym (c .before .before .place .ensures) ∙ c .before .if2 .taken))))
-
-refused-requires-3 : tie.Need-refused-requires-3
-refused-requires-3 c κs = search needs
-
-returns-3 : tie.Need-returns-3
-returns-3 c =
-    let e2 = c .before .before in
-    let a = entry e2 .args in
-    let f = formed (e2 .before .before .before) in
-    c .refused3 .ensures
     ∙ sym (called-refused (a .w) (move (a .channel)) f NotWatched
-    (refuse-now NotWatched none (serving-no-neighbour (a .w) (a .channel) f (sym (e2 .before .place .ensures) ∙ c .before .if3 .taken))))
+    (refuse-now NotWatched none
+    (byCase (eqb p (a .w .watched))
+    (λ q. outside-no-neighbour (a .w) (a .channel) f (e ∙ eqb-true p (a .w .watched) q))
+    (λ q. serving-no-neighbour (a .w) (a .channel) f (e ∙ eqb-true p 0 (or-true-right (eqb p (a .w .watched)) (eqb p 0) (c .before .if2 .taken) q))))))
 
 element-copy-out-s : tie.Need-element-copy-out-s
 element-copy-out-s c = search needs
 
 mul-t : tie.Need-mul-t
-mul-t c = let h = below (c .before .before) in omega arith
+mul-t c = let h = below (c .before) in omega arith
 
 element-copy-out-t : tie.Need-element-copy-out-t
-element-copy-out-t c = below (c .before .before)
+element-copy-out-t c = below (c .before)
 
 element-set-from-t : tie.Need-element-set-from-t
 element-set-from-t c = search needs
 
 mul-s : tie.Need-mul-s
-mul-s c = let h = below (c .before .before .before) in omega arith
+mul-s c = let h = below (c .before .before) in omega arith
 
 element-set-from-s : tie.Need-element-set-from-s
-element-set-from-s c = below (c .before .before .before)
+element-set-from-s c = below (c .before .before)
 
 answered-requires : tie.Need-answered-requires
 answered-requires c κs = search needs
 
-returns-4 : tie.Need-returns-4
-returns-4 c =
-    let e3 = c .before .before .before in
-    let e2 = e3 .before in
+returns-3 : tie.Need-returns-3
+returns-3 c =
+    let e2 = c .before .before .before in
     let a = entry e2 .args in
     let f = formed (e2 .before .before .before) in
     let p = e2 .before .place .ensures in
-    let n : placeIn (a .w) (a .channel) ≡ 0 → ⊥ = λ z. e3 .if3 .left (p ∙ z) in
+    let n : placeIn (a .w) (a .channel) ≡ 0 → ⊥ = λ z. later e2 (p ∙ z) in
     let h : 0 < placeIn (a .w) (a .channel) = omega arith in
-    let l = found-place (a .w) (a .channel) f p (e2 .if2 .left) in
+    let l = found-place (a .w) (a .channel) f p (inside e2) in
     c .answered .ensures
     ∙ ap (λ (i : ℕ). back (watch-of (a .w .watched) (set (set (a .w .tracks) 0 (getD (a .w .tracks) i nothing)) i (getD (a .w .tracks) 0 nothing))) (gives accepted)) p
     ∙ ap (λ (w : Watch). back w (gives accepted)) (watch-moved (a .w) (a .channel) f l h)
@@ -115,8 +122,6 @@ move-to-spec =
     place-requires
     refused-requires-2
     returns-2
-    refused-requires-3
-    returns-3
     element-copy-out-s
     mul-t
     element-copy-out-t
@@ -124,4 +129,4 @@ move-to-spec =
     mul-s
     element-set-from-s
     answered-requires
-    returns-4)
+    returns-3)

@@ -3,6 +3,7 @@ use Prim.Native.Nat.{ℕ, _≤_}
 use mathlib.Core.Path.{_≡_, refl, sym, ap, _∙_}
 use mathlib.Core.Bool.{true, _&&_}
 use mathlib.Core.Option.{Option, none}
+use native.Mathlib.Omega.{arith}
 use borrow.Author.Needs.{needs}
 use borrow.Author.Tests.{not-true, not-false, leb-true}
 use lib.Dec.{leb}
@@ -95,7 +96,8 @@ relist-requires c κs =
     let e2 = c .before in
     let w = entry e2 .args .w in
     let f = formed (tested-once e2) in
-    (formed-short w f, formed-tracks w f, short e2)
+    let z : w .watched ≡ 0 → ⊥ = c .if3 .left in
+    (omega arith, formed-short w f, formed-tracks w f, short e2)
 
 answered-requires : tie.Need-answered-requires
 answered-requires c κs = search needs

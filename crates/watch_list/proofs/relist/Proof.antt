@@ -15,45 +15,35 @@ use Rattle.watch_rules.specs.Record.{rowOf, trackOf}
 use Rattle.watch_rules.proofs.Laws.{take-none}
 use Rattle.watch_rules.proofs.Encode.{watch-path}
 use Rattle.watch_rules.proofs.Relist.{length-relisted}
+use Rattle.watch_record.specs.Code.{nothing}
 use Rattle.watch_list.specs.Code.{keptFrom}
 use Rattle.watch_list.proofs.Tracks.{kept-levels}
-use Rattle.watch_list.proofs.NewList.{tracksFor, list-step}
+use Rattle.watch_list.proofs.NewList.{tracksFor, first-track, list-step}
 use Rattle.watch_list.proofs.relist.Statement.{statement}
 use Rattle.watch_list.proofs.relist.Tie as tie
 
 abbrev Inv-loop : tie.InvT-loop
-Inv-loop old n serving list v₀ first k i₀ v i = (i ≤ k) × (v .tracks ≡ tracksFor serving (map rowOf (take n old)) (take i list))
+Inv-loop n list old v₀ k i₀ v i = (i ≤ k) × (v .tracks ≡ tracksFor (getD old 0 nothing .channel) (map rowOf (take n old)) (take i list))
 
 abbrev μ-loop : tie.MeasureT-loop
-μ-loop old n serving list v₀ first k i₀ v i = k - i
+μ-loop n list old v₀ k i₀ v i = k - i
 
 fresh-requires : tie.Need-fresh-requires Inv-loop μ-loop
 fresh-requires c κs = search needs
 
-place-requires : tie.Need-place-requires Inv-loop μ-loop
-place-requires c κs = search needs
-
-kept-requires : tie.Need-kept-requires Inv-loop μ-loop
-kept-requires c κs = c .before .before .before .pre .0
+array-copy-out-s : tie.Need-array-copy-out-s Inv-loop μ-loop
+array-copy-out-s c = search needs
 
 element-set-from-s : tie.Need-element-set-from-s Inv-loop μ-loop
 element-set-from-s c = search needs
 
--- the serving channel's track
-first-kept : (c : tie.After-kept Inv-loop μ-loop)
-    → c .kept .result ≡ trackOf (row (c .before .before .before .before .args .serving) (levelsOf (c .before .before .before .before .args .serving) (map rowOf (take (c .before .before .before .before .args .n) (c .before .before .before .before .args .old)))))
-first-kept c =
-    let s = c .before .before .before .before in
-    c .kept .ensures
-    ∙ ap (λ (p : ℕ). keptFrom (s .args .old) (s .args .n) p (s .args .serving)) (c .before .place .ensures)
-    ∙ kept-levels (s .args .n) (s .args .serving) (s .args .old) (s .pre .1)
-
 loop-holds : tie.Need-loop-holds Inv-loop μ-loop
 loop-holds c =
-    let a = c .before .before .before .before .args in (
+    let s = c .before .before .before in
+    let a = s .args in (
       omega arith,
-      ap₂ (λ (v : Watch) (t : Track). set (v .tracks) 0 t) (c .before .before .fresh .ensures) (first-kept c)
-          ∙ ap (tracksFor (a .serving) (map rowOf (take (a .n) (a .old)))) (sym (take-none (a .list .now))),
+      ap₂ (λ (v : Watch) (t : Track). set (v .tracks) 0 t) (c .before .fresh .ensures) (first-track (a .n) (a .t1) (s .pre .0) (s .pre .2))
+          ∙ ap (tracksFor (getD (a .t1) 0 nothing .channel) (map rowOf (take (a .n) (a .t1)))) (sym (take-none (a .list .now))),
     )
 
 mul-c : tie.Need-mul-c Inv-loop μ-loop
@@ -64,19 +54,19 @@ shared-slice-read-c c = search needs
 
 -- the entry, from the head of the loop
 abbrev entry : tie.At-loop Inv-loop μ-loop → tie.Start Inv-loop μ-loop
-entry c = c .before .before .before .before .before
+entry c = c .before .before .before .before
 
 few : (c : tie.In-loop Inv-loop μ-loop) → c .before .loop .i < listLimit
-few c = omega (arith, entry (c .before) .pre .2, c .loop-test .taken)
+few c = omega (arith, entry (c .before) .pre .3, c .loop-test .taken)
 
 add-at : tie.Need-add-at Inv-loop μ-loop
 add-at c = let h = few (c .before) in omega arith
 
-place-requires-2 : tie.Need-place-requires-2 Inv-loop μ-loop
-place-requires-2 c κs = search needs
+place-requires : tie.Need-place-requires Inv-loop μ-loop
+place-requires c κs = search needs
 
-kept-requires-2 : tie.Need-kept-requires-2 Inv-loop μ-loop
-kept-requires-2 c κs = entry (c .before .before .before) .pre .0
+kept-requires : tie.Need-kept-requires Inv-loop μ-loop
+kept-requires c κs = entry (c .before .before .before) .pre .1
 
 mul-t : tie.Need-mul-t Inv-loop μ-loop
 mul-t c = let h = few (c .before .before .before) in omega arith
@@ -97,13 +87,13 @@ loop-again c =
     let s = entry at in
     let a = s .args in
     let k = getD (a .list .now) (at .loop .i) 0 in
-    let t : c .kept2 .result ≡ trackOf (row k (levelsOf k (map rowOf (take (a .n) (a .old))))) =
-    c .kept2 .ensures
-    ∙ ap (λ (p : ℕ). keptFrom (a .old) (a .n) p k) (c .before .place2 .ensures)
-    ∙ kept-levels (a .n) k (a .old) (s .pre .1) in (
+    let t : c .kept .result ≡ trackOf (row k (levelsOf k (map rowOf (take (a .n) (a .t1))))) =
+    c .kept .ensures
+    ∙ ap (λ (p : ℕ). keptFrom (a .t1) (a .n) p k) (c .before .place .ensures)
+    ∙ kept-levels (a .n) k (a .t1) (s .pre .2) in (
       omega arith,
       ap₂ (λ (ts : List Track) (u : Track). set ts (at .loop .i + 1) u) (at .loop .inv .1) t
-          ∙ list-step (a .serving) (map rowOf (take (a .n) (a .old))) (a .list .now) (at .loop .i) (il .loop-test .taken) (s .pre .2),
+          ∙ list-step (getD (a .t1) 0 nothing .channel) (map rowOf (take (a .n) (a .t1))) (a .list .now) (at .loop .i) (il .loop-test .taken) (s .pre .3),
     )
 
 add-v : tie.Need-add-v Inv-loop μ-loop
@@ -114,11 +104,12 @@ returns c =
     let at = c .before in
     let a = entry at .args in
     let l = a .list .now in
-    let rs = map rowOf (take (a .n) (a .old)) in
+    let s = getD (a .t1) 0 nothing .channel in
+    let rs = map rowOf (take (a .n) (a .t1)) in
     let e : at .loop .i ≡ length l = omega (arith, at .loop .inv .0, c .loop-test .left) in
     let k : take (at .loop .i) l ≡ l = ap (λ (j : ℕ). take j l) e ∙ take-length l in
-    let n : length l + 1 ≡ length (relisted (a .serving) l rs) = omega (arith, length-relisted (a .serving) l rs) in
-    watch-path n (at .loop .inv .1 ∙ ap (tracksFor (a .serving) rs) k)
+    let n : length l + 1 ≡ length (relisted s l rs) = omega (arith, length-relisted s l rs) in
+    watch-path n (at .loop .inv .1 ∙ ap (tracksFor s rs) k)
 
 pub relist-spec : {M : Type 1} → statement M
 relist-spec =
@@ -127,15 +118,14 @@ relist-spec =
     Inv-loop
     μ-loop
     fresh-requires
-    place-requires
-    kept-requires
+    array-copy-out-s
     element-set-from-s
     loop-holds
     mul-c
     shared-slice-read-c
     add-at
-    place-requires-2
-    kept-requires-2
+    place-requires
+    kept-requires
     mul-t
     element-set-from-t
     add-i
