@@ -4,13 +4,15 @@ ghost use mathlib.Core.Path.{_≡_};
 ghost use mathlib.Core.Bool.{true};
 ghost use mathlib.Core.List.{map};
 ghost use Prim.Native.Nat.{_*_, _<_, _≤_};
+ghost use lib.IntN.{pos};
 ghost use lib.ListN.{take, drop};
+ghost use Rattle.refusal.specs.Told.{gives};
 ghost use Rattle.readings.specs.Ranges.{levelInRange};
-ghost use Rattle.watch_rules.specs.Limits.{hysteresisInRange, depth, room};
-ghost use Rattle.watch_rules.specs.Told.{Call, toldHanded};
-ghost use Rattle.watch_rules.specs.Rules.{mean};
-ghost use Rattle.watch_rules.specs.Rows.{push};
-ghost use Rattle.watch_rules.specs.Record.{trackOf, rowOf, trackFine, tracksFine, called};
+ghost use Rattle.watch_rules.specs.Limits.{hysteresisInRange, hysteresisHighest, depth, room};
+ghost use Rattle.watch_rules.specs.Told.{Call, told, toldHanded};
+ghost use Rattle.watch_rules.specs.Rules.{mean, verdictOf};
+ghost use Rattle.watch_rules.specs.Rows.{push, shown};
+ghost use Rattle.watch_rules.specs.Record.{trackOf, rowOf, rows, trackFine, tracksFine, wellFormed, called};
 ghost use Rattle.watch.specs.Code.{spanInAll, marginMost, belowTop, allBelow, meanBelow, betterOf, consider, scan, nobody};
 use readings::Burst;
 use readings::BurstHundredths;
@@ -222,7 +224,26 @@ fn best(tracks: [Track; ROOM], n: usize, limit: u32, margin: u32) -> Pick
     p
 }
 
-// Verdict: wait while the serving channel has fewer than 15 levels; else move to the best neighbour that counts, or stay.
+// The verdict of a watch that has a serving channel: wait while that has fewer than 15 levels; else move to the best neighbour that
+// counts, or stay.
+fn judged(w: Watch, hysteresis: u32) -> Answer
+    requires { ⌜ (wellFormed w ≡ true) × (0 < w .watched) × (hysteresis ≤ hysteresisHighest) ⌝ }
+    ensures { λ r. ⌜ told r ≡ gives (verdictOf (shown (rows w)) (pos hysteresis)) ⌝ }
+{
+    let tracks = w.tracks;
+    let s = tracks[0];
+    if s.count < DEPTH {
+        return Answer::Wait;
+    }
+    let margin = (DEPTH as u32) * hysteresis;
+    let p = best(tracks, w.watched, total(s), margin);
+    if !p.found {
+        return Answer::Stay;
+    }
+    Answer::MoveTo(p.channel)
+}
+
+// Verdict: wait, stay or move to a neighbour.
 pub fn verdict(w: Watch, hysteresis: i32) -> Handed
     ensures { λ r. ⌜ toldHanded r ≡ called w (Call.verdict hysteresis) ⌝ }
 {
@@ -232,19 +253,8 @@ pub fn verdict(w: Watch, hysteresis: i32) -> Handed
     if !hysteresis_ok(hysteresis) {
         return refused(w, Refusal::ParameterOutOfRange);
     }
-    let n = w.watched;
-    if n == 0 {
+    if w.watched == 0 {
         return refused(w, Refusal::NotWatched);
     }
-    let tracks = w.tracks;
-    let s = tracks[0];
-    if s.count < DEPTH {
-        return answered(w, Answer::Wait);
-    }
-    let margin = (DEPTH as u32) * (hysteresis as u32);
-    let p = best(tracks, n, total(s), margin);
-    if !p.found {
-        return answered(w, Answer::Stay);
-    }
-    answered(w, Answer::MoveTo(p.channel))
+    answered(w, judged(w, hysteresis as u32))
 }

@@ -5,14 +5,13 @@ use mathlib.Core.Bool.{Bool, true, cond}
 use mathlib.Core.List.{List, [], _∷_, map}
 use native.Mathlib.Omega.{arith}
 use lib.Dec.{eqb}
-use lib.IntN.{ℤ}
 use lib.ListN.{length, take, getD, set, length-map}
 use Rattle.watch_rules.specs.declared.Track.{Track}
 use Rattle.watch_rules.specs.declared.Watch.{Watch}
 use Rattle.watch_rules.specs.Lists.{mem, distinct, padTo}
-use Rattle.watch_rules.specs.Rows.{Row, channels, inPlaceOf, moved, push, pushAt}
+use Rattle.watch_rules.specs.Rows.{Row, channels, inPlaceOf, moved}
 use Rattle.watch_rules.specs.Record.{rowOf, rows, trackOf, unused, recordOf, tracksFine, trackFine, wellFormed}
-use Rattle.watch_rules.proofs.Laws.{byCase, clash, and-left, and-right, or-true-right, channels-push}
+use Rattle.watch_rules.proofs.Laws.{byCase, clash, and-left, and-right, or-true-right}
 use Rattle.watch_rules.proofs.Encode.{track-read, tracks-read, read-record, watch-path}
 use Rattle.watch_rules.proofs.Calls.{formed-tracks, formed-long}
 use Rattle.watch_rules.proofs.Relist.{length-inPlace, length-relisted}
