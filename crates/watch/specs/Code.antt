@@ -1,9 +1,9 @@
 -- What the private functions of the calls return. No reader of the public contracts needs this file.
 use Prim.Native.Nat.{ℕ, _+_, _*_, _-_, _/_}
-use mathlib.Core.Bool.{Bool, true, false, cond, _&&_}
+use mathlib.Core.Bool.{Bool, true, false, cond, _&&_, _||_}
 use mathlib.Core.List.{List, [], _∷_}
 use mathlib.Core.Option.{Option, none, some}
-use lib.Dec.{leb, ltb}
+use lib.Dec.{eqb, leb, ltb}
 use lib.IntN.{ℤ, pos, natAbs, _-ℤ_}
 use lib.ListN.{length}
 use Rattle.readings.specs.Ranges.{levelLowest, levelHighest}
@@ -37,12 +37,13 @@ meanBelow n k = levelHighest -ℤ pos ((n + (k - 1)) / k)
 abbrev pub marginMost : ℕ
 marginMost = depth * hysteresisHighest
 
--- the better of two, if there is a first: the greater sum, and the lower channel among equals
+-- the first of two comes first: by the greater sum, and by the lower channel among equals
+abbrev pub ahead : Pick → Pick → Bool
+ahead p q = ltb (p .below) (q .below) || (eqb (p .below) (q .below) && leb (p .channel) (q .channel))
+
+-- the better of two, if there is a first
 abbrev pub betterOf : Pick → Pick → Pick
-betterOf p q =
-    cond (p .found)
-    (cond (ltb (q .below) (p .below)) q (cond (ltb (p .below) (q .below)) p (cond (ltb (q .channel) (p .channel)) q p)))
-    q
+betterOf p q = cond (p .found && ahead p q) p q
 
 -- levels that count: no fewer than are kept, and less below the top than the limit, by more than the margin
 abbrev pub able : ℕ → ℕ → List ℤ → Bool

@@ -170,19 +170,11 @@ fn hysteresis_ok(hysteresis: i32) -> bool
 fn better(p: Pick, q: Pick) -> Pick
     ensures { λ r. ⌜ r ≡ betterOf p q ⌝ }
 {
-    if !p.found {
-        return q;
-    }
-    if q.below < p.below {
-        return q;
-    }
-    if p.below < q.below {
+    let ahead = (p.below < q.below) | ((p.below == q.below) & (p.channel <= q.channel));
+    if p.found & ahead {
         return p;
     }
-    if q.channel < p.channel {
-        return q;
-    }
-    p
+    q
 }
 
 // The best so far with one track more. It counts if it has 15 levels and is less below the top than the limit, by more than the margin.
@@ -190,11 +182,8 @@ fn considered(p: Pick, t: Track, limit: u32, margin: u32) -> Pick
     requires { ⌜ (trackFine t ≡ true) × (margin ≤ marginMost) ⌝ }
     ensures { λ r. ⌜ r ≡ consider limit margin p (rowOf t) ⌝ }
 {
-    if t.count < DEPTH {
-        return p;
-    }
     let sum = total(t);
-    if limit <= sum + margin {
+    if (t.count < DEPTH) | (limit <= sum + margin) {
         return p;
     }
     let q = Pick {
