@@ -16,7 +16,8 @@ use Rattle.watch_rules.proofs.Encode.{track-read, tracks-read, watch-path}
 use Rattle.watch_rules.proofs.Calls.{formed-tracks, formed-long}
 use Rattle.watch_record.specs.Code.{nothing, placeOf, channelsOf}
 use Rattle.watch_list.proofs.Watched.{placeIn}
-use Rattle.watch_list.proofs.Stores.{watch-of, member, as-many}
+use Rattle.watch_list.proofs.Stores.{member, as-many}
+use Rattle.watch.specs.Code.{withTrack}
 
 tracks-pushed : (n c : ℕ) (x : ℤ) (ts : List Track) → tracksFine n ts ≡ true → mem c (channelsOf (take n ts)) ≡ true
     → padTo (length ts) unused (map trackOf (pushAt c x (map rowOf (take n ts))))
@@ -39,7 +40,7 @@ length-pushed c x rs =
 -- of a well-formed watch
 module _ (w : Watch) (c : ℕ) (formed : wellFormed w ≡ true) (there : placeIn w c < w .watched) where
   pub watch-pushed : (x : ℤ)
-      → watch-of (w .watched) (set (w .tracks) (placeIn w c) (trackOf (push x (rowOf (getD (w .tracks) (placeIn w c) nothing))))) ≡ recordOf (pushAt c x (rows w))
+      → withTrack w (placeIn w c) (trackOf (push x (rowOf (getD (w .tracks) (placeIn w c) nothing)))) ≡ recordOf (pushAt c x (rows w))
   watch-pushed x =
       watch-path
       (sym (length-pushed c x (rows w) ∙ as-many w c formed there))

@@ -5,11 +5,17 @@ use mathlib.Core.List.{List, [], _∷_}
 use mathlib.Core.Option.{Option, none, some}
 use lib.Dec.{eqb, leb, ltb}
 use lib.IntN.{ℤ, pos, natAbs, _-ℤ_}
-use lib.ListN.{length}
+use lib.ListN.{length, set}
 use Rattle.readings.specs.Ranges.{levelLowest, levelHighest}
+use Rattle.watch_rules.specs.declared.Track.{Track}
+use Rattle.watch_rules.specs.declared.Watch.{Watch}
 use Rattle.watch_rules.specs.Limits.{hysteresisHighest, depth}
 use Rattle.watch_rules.specs.Rows.{Row}
 use Rattle.watch.specs.declared.Pick.{Pick}
+
+-- a watch with another track at place p
+abbrev pub withTrack : Watch → ℕ → Track → Watch
+withTrack w p t = record { watched = w .watched; tracks = set (w .tracks) p t }
 
 -- ---- levels as distances below the top of the range
 

@@ -5,7 +5,7 @@ ghost use mathlib.Core.Bool.{true};
 ghost use mathlib.Core.List.{map};
 ghost use Prim.Native.Nat.{_*_, _<_, _≤_};
 ghost use lib.IntN.{pos};
-ghost use lib.ListN.{take, drop};
+ghost use lib.ListN.{take, drop, getD};
 ghost use Rattle.refusal.specs.Told.{gives};
 ghost use Rattle.readings.specs.Ranges.{levelInRange};
 ghost use Rattle.watch_rules.specs.Limits.{hysteresisInRange, hysteresisHighest, depth, room};
@@ -13,7 +13,8 @@ ghost use Rattle.watch_rules.specs.Told.{Call, told, toldHanded};
 ghost use Rattle.watch_rules.specs.Rules.{mean, verdictOf};
 ghost use Rattle.watch_rules.specs.Rows.{push, shown};
 ghost use Rattle.watch_rules.specs.Record.{trackOf, rowOf, rows, trackFine, tracksFine, wellFormed, called};
-ghost use Rattle.watch.specs.Code.{spanInAll, marginMost, belowTop, allBelow, meanBelow, betterOf, consider, scan, nobody};
+ghost use Rattle.watch_record.specs.Code.{nothing};
+ghost use Rattle.watch.specs.Code.{withTrack, spanInAll, marginMost, belowTop, allBelow, meanBelow, betterOf, consider, scan, nobody};
 use readings::Burst;
 use readings::BurstHundredths;
 use readings::LEVEL_HIGHEST;
@@ -67,6 +68,18 @@ fn pushed(t: Track, level: i32) -> Track
     u
 }
 
+// The watch with one more level in the track at place p.
+fn with_level(w: Watch, p: usize, level: i32) -> Watch
+    requires { ⌜ (p < room) × (trackFine (getD (w .tracks) p nothing) ≡ true) ⌝ }
+    ensures { λ r. ⌜ r ≡ withTrack w p (trackOf (push level (rowOf (getD (w .tracks) p nothing)))) ⌝ }
+{
+    let mut v = w;
+    let t = v.tracks[p];
+    let u = pushed(t, level);
+    v.tracks[p] = u;
+    v
+}
+
 // File: a heard level is added as the newest. A missed burst is accepted and changes nothing.
 pub fn file(w: Watch, channel: u16, burst: Burst) -> Handed
     ensures { λ r. ⌜ toldHanded r ≡ called w (Call.file channel burst) ⌝ }
@@ -84,10 +97,7 @@ pub fn file(w: Watch, channel: u16, burst: Burst) -> Handed
         BurstHundredths::Missed => answered(w, Answer::Accepted),
         BurstHundredths::Refused(_) => refused(w, Refusal::ReadingOutOfRange),
         BurstHundredths::Heard(r) => {
-            let mut filed = w;
-            let t = filed.tracks[p];
-            let u = pushed(t, r.level);
-            filed.tracks[p] = u;
+            let filed = with_level(w, p, r.level);
             answered(filed, Answer::Accepted)
         }
     }

@@ -18,11 +18,9 @@ use Rattle.watch_rules.proofs.Relist.{length-inPlace, length-relisted}
 use Rattle.watch_rules.proofs.Swap.{replaceAt, moved-swaps}
 use Rattle.watch_record.specs.Code.{nothing, placeOf, channelsOf}
 use Rattle.watch_record.proofs.Scan.{channels-rows}
+use Rattle.watch_list.specs.Code.{exchange}
 use Rattle.watch_list.proofs.Tracks.{track-at, place-among}
 use Rattle.watch_list.proofs.Watched.{placeIn}
-
-abbrev pub watch-of : ℕ → List Track → Watch
-watch-of n ts = record { watched = n; tracks = ts }
 
 -- ---- moving
 
@@ -71,7 +69,7 @@ module _ (w : Watch) (c : ℕ) (formed : wellFormed w ≡ true) (there : placeIn
   as-many = tracks-read (w .watched) (w .tracks) (formed-tracks w formed) .counted
 
   pub watch-moved : 0 < placeIn w c
-      → watch-of (w .watched) (set (set (w .tracks) 0 (getD (w .tracks) (placeIn w c) nothing)) (placeIn w c) (getD (w .tracks) 0 nothing)) ≡ recordOf (moved c (rows w))
+      → exchange w (placeIn w c) ≡ recordOf (moved c (rows w))
   watch-moved l =
       watch-path
       (sym (length-moved c (rows w) ∙ as-many))

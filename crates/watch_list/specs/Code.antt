@@ -4,8 +4,9 @@ use mathlib.Core.Bool.{cond}
 use mathlib.Core.List.{List, []}
 use mathlib.Core.Option.{Option, none, some}
 use lib.Dec.{ltb}
-use lib.ListN.{getD}
+use lib.ListN.{getD, set}
 use Rattle.watch_rules.specs.declared.Track.{Track}
+use Rattle.watch_rules.specs.declared.Watch.{Watch}
 use Rattle.watch_rules.specs.Rows.{row}
 use Rattle.watch_rules.specs.Record.{trackOf}
 use Rattle.watch_record.specs.Code.{nothing}
@@ -21,3 +22,7 @@ keptFrom ts n p c =
 abbrev pub servingOf : ℕ → ℕ → Option ℕ
 servingOf zero s = none
 servingOf (suc n) s = some s
+
+-- a watch with its first track and the one at place p exchanged
+abbrev pub exchange : Watch → ℕ → Watch
+exchange w p = record { watched = w .watched; tracks = set (set (w .tracks) 0 (getD (w .tracks) p nothing)) p (getD (w .tracks) 0 nothing) }

@@ -13,7 +13,7 @@ ghost use Rattle.watch_rules.specs.Rules.{listSound};
 ghost use Rattle.watch_rules.specs.Rows.{relisted};
 ghost use Rattle.watch_rules.specs.Record.{recordOf, rowOf, tracksFine, called};
 ghost use Rattle.watch_record.specs.Code.{nothing};
-ghost use Rattle.watch_list.specs.Code.{keptFrom, servingOf};
+ghost use Rattle.watch_list.specs.Code.{keptFrom, servingOf, exchange};
 use refusal::Refusal;
 use watch_record::answered;
 use watch_record::empty;
@@ -144,6 +144,19 @@ pub fn new_list(w: Watch, list: &[u16]) -> Handed
     answered(listed, Answer::Accepted)
 }
 
+// The watch with its first track and the one at place p exchanged.
+fn exchanged(w: Watch, p: usize) -> Watch
+    requires { ⌜ p < room ⌝ }
+    ensures { λ r. ⌜ r ≡ exchange w p ⌝ }
+{
+    let mut v = w;
+    let s = v.tracks[0];
+    let t = v.tracks[p];
+    v.tracks[0] = t;
+    v.tracks[p] = s;
+    v
+}
+
 // Move: the neighbour becomes serving, the old serving channel takes its place in the list; both keep their levels.
 pub fn move_to(w: Watch, channel: u16) -> Handed
     ensures { λ r. ⌜ toldHanded r ≡ called w (Call.move channel) ⌝ }
@@ -157,10 +170,6 @@ pub fn move_to(w: Watch, channel: u16) -> Handed
     if (p == n) | (p == 0) {
         return refused(w, Refusal::NotWatched);
     }
-    let mut moved = w;
-    let s = moved.tracks[0];
-    let t = moved.tracks[p];
-    moved.tracks[0] = t;
-    moved.tracks[p] = s;
+    let moved = exchanged(w, p);
     answered(moved, Answer::Accepted)
 }

@@ -1,6 +1,6 @@
 -- A channel outside the tracks is not under watch, and the one at the first place serves; any other is a neighbour, and the two tracks
 -- change places.
-use Prim.Native.Nat.{ℕ, _<_}
+use Prim.Native.Nat.{_<_}
 use mathlib.Core.Path.{_≡_, refl, sym, ap, _∙_}
 use mathlib.Core.Bool.{true}
 use mathlib.Core.Option.{none}
@@ -8,7 +8,6 @@ use native.Mathlib.Omega.{arith}
 use borrow.Author.Needs.{needs}
 use borrow.Author.Tests.{not-true, not-false, eqb-true, eq-eqb}
 use lib.Dec.{eqb}
-use lib.ListN.{getD, set}
 use Rattle.refusal.specs.declared.Refusal.the-variants.{NotWatched}
 use Rattle.refusal.specs.Told.{gives}
 use Rattle.watch_rules.specs.declared.Watch.{Watch}
@@ -17,9 +16,10 @@ use Rattle.watch_rules.specs.Told.{move, accepted}
 use Rattle.watch_rules.specs.Record.{wellFormed}
 use Rattle.watch_rules.proofs.Calls.{called-unformed, called-refused, called-granted, refuse-now, refuse-later}
 use Rattle.watch_rules.proofs.Laws.{byCase, clash, or-true-right, or-false-left, or-false-right}
-use Rattle.watch_record.specs.Code.{nothing, back}
+use Rattle.watch_record.specs.Code.{back}
+use Rattle.watch_list.specs.Code.{exchange}
 use Rattle.watch_list.proofs.Watched.{placeIn, found-place, found-below, outside-no-neighbour, serving-no-neighbour, later-neighbour}
-use Rattle.watch_list.proofs.Stores.{watch-of, watch-moved}
+use Rattle.watch_list.proofs.Stores.{watch-moved}
 use Rattle.watch_list.proofs.move_to.Statement.{statement}
 use Rattle.watch_list.proofs.move_to.Tie as tie
 
@@ -77,30 +77,15 @@ returns-2 c =
     (λ q. outside-no-neighbour (a .w) (a .channel) f (e ∙ eqb-true p (a .w .watched) q))
     (λ q. serving-no-neighbour (a .w) (a .channel) f (e ∙ eqb-true p 0 (or-true-right (eqb p (a .w .watched)) (eqb p 0) (c .before .if2 .taken) q))))))
 
-element-copy-out-s : tie.Need-element-copy-out-s
-element-copy-out-s c = search needs
-
-mul-t : tie.Need-mul-t
-mul-t c = let h = below (c .before) in omega arith
-
-element-copy-out-t : tie.Need-element-copy-out-t
-element-copy-out-t c = below (c .before)
-
-element-set-from-t : tie.Need-element-set-from-t
-element-set-from-t c = search needs
-
-mul-s : tie.Need-mul-s
-mul-s c = let h = below (c .before .before) in omega arith
-
-element-set-from-s : tie.Need-element-set-from-s
-element-set-from-s c = below (c .before .before)
+exchanged-requires : tie.Need-exchanged-requires
+exchanged-requires c κs = below c
 
 answered-requires : tie.Need-answered-requires
 answered-requires c κs = search needs
 
 returns-3 : tie.Need-returns-3
 returns-3 c =
-    let e2 = c .before .before .before in
+    let e2 = c .before .before in
     let a = entry e2 .args in
     let f = formed (e2 .before .before .before) in
     let p = e2 .before .place .ensures in
@@ -108,8 +93,7 @@ returns-3 c =
     let h : 0 < placeIn (a .w) (a .channel) = omega arith in
     let l = found-place (a .w) (a .channel) f p (inside e2) in
     c .answered .ensures
-    ∙ ap (λ (i : ℕ). back (watch-of (a .w .watched) (set (set (a .w .tracks) 0 (getD (a .w .tracks) i nothing)) i (getD (a .w .tracks) 0 nothing))) (gives accepted)) p
-    ∙ ap (λ (w : Watch). back w (gives accepted)) (watch-moved (a .w) (a .channel) f l h)
+    ∙ ap (λ (w : Watch). back w (gives accepted)) (c .before .exchanged .ensures ∙ ap (exchange (a .w)) p ∙ watch-moved (a .w) (a .channel) f l h)
     ∙ sym (called-granted (a .w) (move (a .channel)) f (refuse-later NotWatched (later-neighbour (a .w) (a .channel) f h l) refl))
 
 pub move-to-spec : {M : Type 1} → statement M
@@ -122,11 +106,6 @@ move-to-spec =
     place-requires
     refused-requires-2
     returns-2
-    element-copy-out-s
-    mul-t
-    element-copy-out-t
-    element-set-from-t
-    mul-s
-    element-set-from-s
+    exchanged-requires
     answered-requires
     returns-3)

@@ -14,9 +14,11 @@ use Rattle.watch_rules.specs.Told.{start, accepted}
 use Rattle.watch_rules.specs.Record.{wellFormed}
 use Rattle.watch_rules.proofs.Calls.{called-unformed, called-refused, called-granted, refuse-now, refuse-later}
 use Rattle.watch_record.specs.Code.{back}
-use Rattle.watch_list.proofs.Stores.{watch-of}
 use Rattle.watch_list.proofs.start.Statement.{statement}
 use Rattle.watch_list.proofs.start.Tie as tie
+
+abbrev started-with : Watch → Track → Watch
+started-with v t = record { watched = 1; tracks = set (v .tracks) 0 t }
 
 formed : (c : tie.Else1) → wellFormed (c .before .before .args .w) ≡ true
 formed c = sym (c .before .well-formed .ensures) ∙ not-false _ (c .if1 .left)
@@ -61,7 +63,7 @@ returns-3 c =
     let e2 = c .before .before .before in
     let a = e2 .before .before .before .args in
     c .answered .ensures
-    ∙ ap₂ (λ (v : Watch) (t : Track). back (watch-of 1 (set (v .tracks) 0 t)) (gives accepted)) (c .before .before .fresh .ensures) (c .before .empty .ensures)
+    ∙ ap₂ (λ (v : Watch) (t : Track). back (started-with v t) (gives accepted)) (c .before .before .fresh .ensures) (c .before .empty .ensures)
     ∙ sym (called-granted (a .w) (start (a .serving)) (formed (e2 .before))
     (refuse-later ChannelOutOfRange (le-leb (a .serving) channelHighest (e2 .if2 .left)) refl))
 
