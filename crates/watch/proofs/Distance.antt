@@ -1,12 +1,9 @@
 -- A level in range as its distance below the top of the range: the distance gives the level back, and is at most the range's span.
 use Prim.Native.Nat.{_≤_}
 use mathlib.Core.Path.{_≡_, refl, sym, ap, ap₂, _∙_}
-use mathlib.Core.Bool.{Bool, true}
+use mathlib.Core.Bool.{true}
 use lib.IntN.{ℤ, pos, natAbs, _-ℤ_}
 use lib.Signed.{ltZ, leZ}
-use mir.Syntax.{w32}
-use mir.Val.{SFits, toZ, ofZ}
-use mir.Facts.{toZ-ofZ}
 use borrow.Author.Tests.{ltb-false, not-true}
 use Rattle.readings.specs.Ranges.{levelLowest, levelHighest, levelInRange}
 use Rattle.watch.specs.Code.{belowTop, levelSpan}
@@ -36,7 +33,3 @@ module _ (x : ℤ) (ok : levelInRange x ≡ true) where
   pub distance-most : belowTop x ≤ levelSpan
   unfolding belowTop
   distance-most = between levelLowest levelHighest x refl (and-left (leZ levelLowest x) (leZ x levelHighest) ok) (and-right (leZ levelLowest x) (leZ x levelHighest) ok)
-
--- what a test of a level's bits says of the level
-pub level-tested : (x : ℤ) {r : Bool} → SFits w32 x → r ≡ levelInRange (toZ w32 (ofZ w32 x)) → levelInRange x ≡ r
-level-tested x f e = ap levelInRange (sym (toZ-ofZ f)) ∙ sym e

@@ -1,6 +1,6 @@
 -- Division rounded down. Adding k to a number raises its k-th part by one; so a mean of numbers below t is t less their mean distance,
 -- rounded up.
-use Prim.Native.Nat.{ℕ, zero, suc, _+_, _-_, _*_, _/_, _≤_, _<_}
+use Prim.Native.Nat.{ℕ, zero, suc, _+_, _-_, _/_, _≤_, _<_}
 use mathlib.Core.Path.{_≡_, sym, ap, _∙_}
 use native.Mathlib.Omega.{arith}
 use native.Mathlib.Nat.{add-div-right, div-eq-of-lt}

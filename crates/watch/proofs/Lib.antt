@@ -3,13 +3,8 @@ pub mod Whole
 pub mod Distance
 pub mod Floor
 pub mod Sums
-pub mod Places
-pub mod Scan
-pub mod Tracks
-pub mod ListScan
 pub mod Push
-pub mod NewList
-pub mod Watched
-pub mod Stores
+pub mod Found
+pub mod Filed
 pub mod Picks
 pub mod Search

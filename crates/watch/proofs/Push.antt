@@ -17,12 +17,7 @@ use Rattle.watch_rules.specs.Record.{rowOf, trackOf, trackFine}
 use Rattle.watch_rules.proofs.Depth.{depth-above-0, depth-within}
 use Rattle.watch_rules.proofs.Laws.{last-short}
 use Rattle.watch_rules.proofs.Encode.{track-path, track-count, track-long, track-levels}
-
--- one more behind those that are padded
-pub padTo-snoc : {A : Type 0} (n : ℕ) (d : A) (xs : List A) (a : A) → length xs < n → set (padTo n d xs) (length xs) a ≡ padTo n d (xs ++ a ∷ [])
-padTo-snoc zero d xs a h = absurd (omega arith)
-padTo-snoc (suc n) d [] a h = refl
-padTo-snoc (suc n) d (x ∷ xs) a h = ap (_∷_ x) (padTo-snoc n d xs a (omega arith))
+use Rattle.watch_list.proofs.NewList.{padTo-snoc}
 
 -- padding stands behind the list, and is that of nothing
 padTo-behind : {A : Type 0} (n : ℕ) (d : A) (xs : List A) → length xs ≤ n → padTo n d xs ≡ xs ++ padTo (n - length xs) d []

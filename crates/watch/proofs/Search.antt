@@ -32,7 +32,8 @@ use Rattle.watch_rules.proofs.Swap.{Own, own-rest}
 use Rattle.watch_rules.proofs.Order.{lt-yes, lt-no, yes-lt}
 use Rattle.watch_rules.proofs.Verdict.{Ranged, formed-ranged, target-some, target-none, yes-full, no-full, verdict-full, verdict-waits}
 use Rattle.watch.specs.declared.Pick.{Pick}
-use Rattle.watch.specs.Code.{nothing, allBelow, able, betterOf, pickOf, consider, scan, nobody, chosen}
+use Rattle.watch_record.specs.Code.{nothing}
+use Rattle.watch.specs.Code.{allBelow, able, betterOf, pickOf, consider, scan, nobody, chosen}
 use Rattle.watch.proofs.Picks.{better-first, better-nearer, better-farther, better-lower, better-higher}
 use Rattle.watch.proofs.Whole.{order-below, order-raised}
 use Rattle.watch.proofs.Sums.{sum-below}

@@ -1,50 +1,21 @@
 -- What the private functions of the calls return. No reader of the public contracts needs this file.
-use Prim.Native.Nat.{ℕ, zero, suc, _+_, _*_, _-_, _/_}
-use mathlib.Core.Bool.{Bool, true, false, cond, _&&_}
-use mathlib.Core.List.{List, [], _∷_, map}
+use Prim.Native.Nat.{ℕ, _+_, _*_, _-_, _/_}
+use mathlib.Core.Bool.{Bool, true, false, cond, _&&_, _||_}
+use mathlib.Core.List.{List, [], _∷_}
 use mathlib.Core.Option.{Option, none, some}
 use lib.Dec.{eqb, leb, ltb}
 use lib.IntN.{ℤ, pos, natAbs, _-ℤ_}
-use lib.ListN.{length, getD}
-use Rattle.refusal.specs.Told.{Told}
+use lib.ListN.{length, set}
 use Rattle.readings.specs.Ranges.{levelLowest, levelHighest}
 use Rattle.watch_rules.specs.declared.Track.{Track}
 use Rattle.watch_rules.specs.declared.Watch.{Watch}
 use Rattle.watch_rules.specs.Limits.{hysteresisHighest, depth}
-use Rattle.watch_rules.specs.Told.{Given, Called}
-use Rattle.watch_rules.specs.Rows.{Row, row}
-use Rattle.watch_rules.specs.Record.{trackOf}
+use Rattle.watch_rules.specs.Rows.{Row}
 use Rattle.watch.specs.declared.Pick.{Pick}
 
--- a watch beside its answer
-abbrev pub back : Watch → Told Given → Called
-back w a = record { watch = w; answer = a }
-
--- ---- places
-
--- the place of the first track with a channel; as many as there are where none has it
-abbrev pub placeOf : ℕ → List Track → ℕ
-placeOf c [] = 0
-placeOf c (t ∷ ts) = cond (eqb (t .channel) c) 0 (suc (placeOf c ts))
-
-abbrev pub channelsOf : List Track → List ℕ
-channelsOf ts = map (λ (t : Track). t .channel) ts
-
--- a track with nothing in it, for places outside a list
-abbrev pub nothing : Track
-nothing = record { channel = 0; count = 0; levels = [] }
-
--- a channel with the levels of the track at place p; without levels where p is not below n
-abbrev pub keptFrom : List Track → ℕ → ℕ → ℕ → Track
-keptFrom ts n p c =
-    cond (ltb p n)
-    (record { channel = c; count = getD ts p nothing .count; levels = getD ts p nothing .levels })
-    (trackOf (row c []))
-
--- who serves in a record: nobody where nothing is watched
-abbrev pub servingOf : ℕ → ℕ → Option ℕ
-servingOf zero s = none
-servingOf (suc n) s = some s
+-- a watch with another track at place p
+abbrev pub withTrack : Watch → ℕ → Track → Watch
+withTrack w p t = record { watched = w .watched; tracks = set (w .tracks) p t }
 
 -- ---- levels as distances below the top of the range
 
@@ -72,12 +43,13 @@ meanBelow n k = levelHighest -ℤ pos ((n + (k - 1)) / k)
 abbrev pub marginMost : ℕ
 marginMost = depth * hysteresisHighest
 
--- the better of two, if there is a first: the greater sum, and the lower channel among equals
+-- the first of two comes first: by the greater sum, and by the lower channel among equals
+abbrev pub ahead : Pick → Pick → Bool
+ahead p q = ltb (p .below) (q .below) || (eqb (p .below) (q .below) && leb (p .channel) (q .channel))
+
+-- the better of two, if there is a first
 abbrev pub betterOf : Pick → Pick → Pick
-betterOf p q =
-    cond (p .found)
-    (cond (ltb (q .below) (p .below)) q (cond (ltb (p .below) (q .below)) p (cond (ltb (q .channel) (p .channel)) q p)))
-    q
+betterOf p q = cond (p .found && ahead p q) p q
 
 -- levels that count: no fewer than are kept, and less below the top than the limit, by more than the margin
 abbrev pub able : ℕ → ℕ → List ℤ → Bool

@@ -1,31 +1,37 @@
-// The calls of the neighbour watch. Document 01, section The watch. Each takes the watch by value and hands it back beside its answer;
-// refused, it hands back the very watch that it was given.
+// The calls of the neighbour watch: file, ask and verdict here, the others passed on. Document 01, section The watch. Each takes the watch
+// by value and hands it back beside its answer; refused, it hands back the very watch that it was given.
 ghost use mathlib.Core.Path.{_≡_};
-ghost use mathlib.Core.Bool.{true, _&&_};
-ghost use mathlib.Core.List.{[], map};
-ghost use Prim.Native.Nat.{_*_, _<_, _≤_};
-ghost use lib.ListN.{length, take, drop};
-ghost use Rattle.refusal.specs.Told.{gives, refusedFor};
+ghost use mathlib.Core.Bool.{true};
+ghost use mathlib.Core.List.{map};
+ghost use Prim.Native.Nat.{_<_, _≤_};
+ghost use lib.IntN.{pos};
+ghost use lib.ListN.{take, drop, getD};
+ghost use Rattle.refusal.specs.Told.{gives};
 ghost use Rattle.readings.specs.Ranges.{levelInRange};
-ghost use Rattle.watch_rules.specs.Lists.{mem, every, distinct};
-ghost use Rattle.watch_rules.specs.Limits.{channelInRange, hysteresisInRange, listLimit, depth, room};
-ghost use Rattle.watch_rules.specs.Told.{Call, Given, told, toldHanded};
-ghost use Rattle.watch_rules.specs.Rules.{mean, listSound};
-ghost use Rattle.watch_rules.specs.Rows.{row, push, relisted};
-ghost use Rattle.watch_rules.specs.Record.{fresh as freshWatch, recordOf, trackOf, rowOf, trackFine, trackUnused, tracksFine, levelsFine, wellFormed, called, tested};
-ghost use Rattle.watch.specs.Code.{back, spanInAll, marginMost, placeOf, channelsOf, keptFrom, belowTop, allBelow, meanBelow, servingOf, betterOf, consider, scan, nobody};
+ghost use Rattle.watch_rules.specs.Limits.{hysteresisInRange, hysteresisHighest, depth, room};
+ghost use Rattle.watch_rules.specs.Told.{Call, told, toldHanded};
+ghost use Rattle.watch_rules.specs.Rules.{mean, verdictOf};
+ghost use Rattle.watch_rules.specs.Rows.{push, shown};
+ghost use Rattle.watch_rules.specs.Record.{trackOf, rowOf, rows, trackFine, tracksFine, wellFormed, called};
+ghost use Rattle.watch_record.specs.Code.{nothing};
+ghost use Rattle.watch.specs.Code.{withTrack, spanInAll, marginMost, belowTop, allBelow, meanBelow, betterOf, consider, scan, nobody};
 use readings::Burst;
 use readings::BurstHundredths;
 use readings::LEVEL_HIGHEST;
-use readings::LEVEL_LOWEST;
 use refusal::Refusal;
+pub use watch_list::move_to;
+pub use watch_list::new_list;
+pub use watch_list::start;
+use watch_record::answered;
+pub use watch_record::check;
+pub use watch_record::fresh;
+use watch_record::place;
+use watch_record::refused;
+use watch_record::well_formed;
 use watch_rules::Answer;
-use watch_rules::CAPACITY;
-use watch_rules::CHANNEL_HIGHEST;
 use watch_rules::DEPTH;
 use watch_rules::HYSTERESIS_HIGHEST;
 use watch_rules::Handed;
-use watch_rules::LIST_LIMIT;
 use watch_rules::ROOM;
 use watch_rules::Track;
 use watch_rules::Watch;
@@ -38,342 +44,6 @@ struct Pick {
     found: bool,
     channel: u16,
     below: u32,
-}
-
-// An idle watch.
-pub fn fresh() -> Watch
-    ensures { λ r. ⌜ r ≡ freshWatch ⌝ }
-{
-    let t = empty(0);
-    let tracks = [t; ROOM];
-    Watch {
-        watched: 0,
-        tracks: tracks,
-    }
-}
-
-// A channel without levels.
-fn empty(channel: u16) -> Track
-    ensures { λ r. ⌜ r ≡ trackOf (row channel []) ⌝ }
-{
-    let none = [0i32; CAPACITY];
-    Track {
-        channel: channel,
-        count: 0,
-        levels: none,
-    }
-}
-
-fn answered(w: Watch, answer: Answer) -> Handed
-    ensures { λ r. ⌜ toldHanded r ≡ back w (told answer) ⌝ }
-{
-    Handed {
-        watch: w,
-        answer: answer,
-    }
-}
-
-fn refused(w: Watch, why: Refusal) -> Handed
-    ensures { λ r. ⌜ toldHanded r ≡ back w (refusedFor why) ⌝ }
-{
-    answered(w, Answer::Refused(why))
-}
-
-fn accepted(w: Watch) -> Handed
-    ensures { λ r. ⌜ toldHanded r ≡ back w (gives Given.accepted) ⌝ }
-{
-    answered(w, Answer::Accepted)
-}
-
-// A level lies in its range.
-fn level_ok(level: i32) -> bool
-    ensures { λ r. ⌜ r ≡ levelInRange level ⌝ }
-{
-    (LEVEL_LOWEST <= level) & (level <= LEVEL_HIGHEST)
-}
-
-// Levels are summed and compared as distances below the top of the range.
-fn below_top(level: i32) -> u32
-    requires { ⌜ levelInRange level ≡ true ⌝ }
-    ensures { λ r. ⌜ r ≡ belowTop level ⌝ }
-{
-    (LEVEL_HIGHEST - level) as u32
-}
-
-// A track's levels lie in the range as far as its count, and are 0 beyond it.
-fn levels_ok(t: Track) -> bool
-    ensures { λ r. ⌜ r ≡ levelsFine (t .count) (t .levels) ⌝ }
-{
-    let n = t.count;
-    if n > CAPACITY {
-        return false;
-    }
-    let mut j = 0;
-    while j < CAPACITY {
-        let x = t.levels[j];
-        if j < n {
-            if !level_ok(x) {
-                return false;
-            }
-        } else {
-            if x != 0 {
-                return false;
-            }
-        }
-        j += 1;
-    }
-    true
-}
-
-fn track_ok(t: Track) -> bool
-    ensures { λ r. ⌜ r ≡ trackFine t ⌝ }
-{
-    if t.channel > CHANNEL_HIGHEST {
-        return false;
-    }
-    if t.count > DEPTH {
-        return false;
-    }
-    levels_ok(t)
-}
-
-// All zero.
-fn unused_ok(t: Track) -> bool
-    ensures { λ r. ⌜ r ≡ trackUnused t ⌝ }
-{
-    if t.channel > 0 {
-        return false;
-    }
-    if t.count > 0 {
-        return false;
-    }
-    track_ok(t)
-}
-
-// The first n tracks are fine, and the others unused.
-fn tracks_ok(tracks: [Track; ROOM], n: usize) -> bool
-    ensures { λ r. ⌜ r ≡ tracksFine n tracks ⌝ }
-{
-    if n > ROOM {
-        return false;
-    }
-    let mut i = 0;
-    while i < ROOM {
-        let t = tracks[i];
-        if i < n {
-            if !track_ok(t) {
-                return false;
-            }
-        } else {
-            if !unused_ok(t) {
-                return false;
-            }
-        }
-        i += 1;
-    }
-    true
-}
-
-// The place of the first of n tracks that has the channel; n where none has.
-fn place(tracks: [Track; ROOM], n: usize, channel: u16) -> usize
-    requires { ⌜ n ≤ room ⌝ }
-    ensures { λ r. ⌜ r ≡ placeOf channel (take n tracks) ⌝ }
-{
-    let mut i = 0;
-    while i < n {
-        let t = tracks[i];
-        if t.channel == channel {
-            return i;
-        }
-        i += 1;
-    }
-    n
-}
-
-// The channels of the first n tracks differ.
-fn apart(tracks: [Track; ROOM], n: usize) -> bool
-    requires { ⌜ n ≤ room ⌝ }
-    ensures { λ r. ⌜ r ≡ distinct (channelsOf (take n tracks)) ⌝ }
-{
-    let mut i = 0;
-    while i < n {
-        let t = tracks[i];
-        if place(tracks, i, t.channel) < i {
-            return false;
-        }
-        i += 1;
-    }
-    true
-}
-
-fn well_formed(w: Watch) -> bool
-    ensures { λ r. ⌜ r ≡ wellFormed w ⌝ }
-{
-    let n = w.watched;
-    let tracks = w.tracks;
-    if !tracks_ok(tracks, n) {
-        return false;
-    }
-    apart(tracks, n)
-}
-
-// Whether a watch is well formed: accepted, or refusal 9.
-pub fn check(w: Watch) -> Handed
-    ensures { λ r. ⌜ toldHanded r ≡ tested w ⌝ }
-{
-    if !well_formed(w) {
-        return refused(w, Refusal::RecordNotWellFormed);
-    }
-    accepted(w)
-}
-
-// Start: that channel alone, without levels.
-pub fn start(w: Watch, serving: u16) -> Handed
-    ensures { λ r. ⌜ toldHanded r ≡ called w (Call.start serving) ⌝ }
-{
-    if !well_formed(w) {
-        return refused(w, Refusal::RecordNotWellFormed);
-    }
-    if serving > CHANNEL_HIGHEST {
-        return refused(w, Refusal::ChannelOutOfRange);
-    }
-    let mut started = fresh();
-    let t = empty(serving);
-    started.tracks[0] = t;
-    started.watched = 1;
-    accepted(started)
-}
-
-// The channel is among the first n of the list.
-fn has(list: &[u16], n: usize, channel: u16) -> bool
-    requires { ⌜ n ≤ length (now list) ⌝ }
-    ensures { λ r. ⌜ r ≡ mem channel (take n (now (list .entry))) ⌝ }
-{
-    let mut i = 0;
-    while i < n {
-        if list[i] == channel {
-            return true;
-        }
-        i += 1;
-    }
-    false
-}
-
-// The channels of the list lie in the range and differ.
-fn channels_ok(list: &[u16]) -> bool
-    ensures { λ r. ⌜ r ≡ (every channelInRange (now (list .entry)) && distinct (now (list .entry))) ⌝ }
-{
-    let n = list.len();
-    let mut i = 0;
-    while i < n {
-        let c = list[i];
-        if c > CHANNEL_HIGHEST {
-            return false;
-        }
-        if has(list, i, c) {
-            return false;
-        }
-        i += 1;
-    }
-    true
-}
-
-// The list may be taken: at most 6 channels, in range, no repeat, and not the serving channel.
-fn list_ok(list: &[u16], watched: usize, serving: u16) -> bool
-    ensures { λ r. ⌜ r ≡ listSound (servingOf watched serving) (now (list .entry)) ⌝ }
-{
-    let n = list.len();
-    if n > LIST_LIMIT {
-        return false;
-    }
-    if !channels_ok(list) {
-        return false;
-    }
-    if watched == 0 {
-        return true;
-    }
-    !has(list, n, serving)
-}
-
-// The channel with the levels of the track at place p; without levels where p is not below n.
-fn kept(old: [Track; ROOM], n: usize, p: usize, channel: u16) -> Track
-    requires { ⌜ n ≤ room ⌝ }
-    ensures { λ r. ⌜ r ≡ keptFrom old n p channel ⌝ }
-{
-    if p < n {
-        let mut t = old[p];
-        t.channel = channel;
-        return t;
-    }
-    empty(channel)
-}
-
-// The serving channel and the channels of the list, in this order, each with the levels that it had.
-fn relist(old: [Track; ROOM], n: usize, serving: u16, list: &[u16]) -> Watch
-    requires { ⌜ (n ≤ room) × (tracksFine n old ≡ true) × (length (now list) ≤ listLimit) ⌝ }
-    ensures { λ r. ⌜ r ≡ recordOf (relisted serving (now (list .entry)) (map rowOf (take n old))) ⌝ }
-{
-    let mut v = fresh();
-    let first = place(old, n, serving);
-    let s = kept(old, n, first, serving);
-    v.tracks[0] = s;
-    let k = list.len();
-    let mut i = 0;
-    while i < k {
-        let c = list[i];
-        let at = i + 1;
-        // The channel's place before, not its place in the list.
-        let p = place(old, n, c);
-        let t = kept(old, n, p, c);
-        v.tracks[at] = t;
-        i += 1;
-    }
-    v.watched = k + 1;
-    v
-}
-
-// New list: replaces the neighbours; a channel watched before and after keeps its levels.
-pub fn new_list(w: Watch, list: &[u16]) -> Handed
-    ensures { λ r. ⌜ toldHanded r ≡ called w (Call.newList (now (list .entry))) ⌝ }
-{
-    if !well_formed(w) {
-        return refused(w, Refusal::RecordNotWellFormed);
-    }
-    let tracks = w.tracks;
-    let n = w.watched;
-    let s = tracks[0];
-    if !list_ok(list, n, s.channel) {
-        return refused(w, Refusal::ListFaulty);
-    }
-    if n == 0 {
-        return refused(w, Refusal::NotWatched);
-    }
-    let listed = relist(tracks, n, s.channel, list);
-    accepted(listed)
-}
-
-// Move: the neighbour becomes serving, the old serving channel takes its place in the list; both keep their levels.
-pub fn move_to(w: Watch, channel: u16) -> Handed
-    ensures { λ r. ⌜ toldHanded r ≡ called w (Call.move channel) ⌝ }
-{
-    if !well_formed(w) {
-        return refused(w, Refusal::RecordNotWellFormed);
-    }
-    let n = w.watched;
-    let tracks = w.tracks;
-    let p = place(tracks, n, channel);
-    if p == n {
-        return refused(w, Refusal::NotWatched);
-    }
-    if p == 0 {
-        return refused(w, Refusal::NotWatched);
-    }
-    let mut moved = w;
-    let s = moved.tracks[0];
-    let t = moved.tracks[p];
-    moved.tracks[0] = t;
-    moved.tracks[p] = s;
-    accepted(moved)
 }
 
 // The track with one more level, the newest; beyond 15 the oldest goes.
@@ -398,6 +68,18 @@ fn pushed(t: Track, level: i32) -> Track
     u
 }
 
+// The watch with one more level in the track at place p.
+fn with_level(w: Watch, p: usize, level: i32) -> Watch
+    requires { ⌜ (p < room) × (trackFine (getD (w .tracks) p nothing) ≡ true) ⌝ }
+    ensures { λ r. ⌜ r ≡ withTrack w p (trackOf (push level (rowOf (getD (w .tracks) p nothing)))) ⌝ }
+{
+    let mut v = w;
+    let t = v.tracks[p];
+    let u = pushed(t, level);
+    v.tracks[p] = u;
+    v
+}
+
 // File: a heard level is added as the newest. A missed burst is accepted and changes nothing.
 pub fn file(w: Watch, channel: u16, burst: Burst) -> Handed
     ensures { λ r. ⌜ toldHanded r ≡ called w (Call.file channel burst) ⌝ }
@@ -412,16 +94,21 @@ pub fn file(w: Watch, channel: u16, burst: Burst) -> Handed
         return refused(w, Refusal::NotWatched);
     }
     match readings::burst_to_hundredths(burst) {
-        BurstHundredths::Missed => accepted(w),
+        BurstHundredths::Missed => answered(w, Answer::Accepted),
         BurstHundredths::Refused(_) => refused(w, Refusal::ReadingOutOfRange),
         BurstHundredths::Heard(r) => {
-            let mut filed = w;
-            let t = filed.tracks[p];
-            let u = pushed(t, r.level);
-            filed.tracks[p] = u;
-            accepted(filed)
+            let filed = with_level(w, p, r.level);
+            answered(filed, Answer::Accepted)
         }
     }
+}
+
+// Levels are summed and compared as distances below the top of the range.
+fn below_top(level: i32) -> u32
+    requires { ⌜ levelInRange level ≡ true ⌝ }
+    ensures { λ r. ⌜ r ≡ belowTop level ⌝ }
+{
+    (LEVEL_HIGHEST - level) as u32
 }
 
 // How far a track's levels are below the top of the range in all.
@@ -493,19 +180,11 @@ fn hysteresis_ok(hysteresis: i32) -> bool
 fn better(p: Pick, q: Pick) -> Pick
     ensures { λ r. ⌜ r ≡ betterOf p q ⌝ }
 {
-    if !p.found {
-        return q;
-    }
-    if q.below < p.below {
-        return q;
-    }
-    if p.below < q.below {
+    let ahead = (p.below < q.below) | ((p.below == q.below) & (p.channel <= q.channel));
+    if p.found & ahead {
         return p;
     }
-    if q.channel < p.channel {
-        return q;
-    }
-    p
+    q
 }
 
 // The best so far with one track more. It counts if it has 15 levels and is less below the top than the limit, by more than the margin.
@@ -513,11 +192,8 @@ fn considered(p: Pick, t: Track, limit: u32, margin: u32) -> Pick
     requires { ⌜ (trackFine t ≡ true) × (margin ≤ marginMost) ⌝ }
     ensures { λ r. ⌜ r ≡ consider limit margin p (rowOf t) ⌝ }
 {
-    if t.count < DEPTH {
-        return p;
-    }
     let sum = total(t);
-    if limit <= sum + margin {
+    if (t.count < DEPTH) | (limit <= sum + margin) {
         return p;
     }
     let q = Pick {
@@ -547,7 +223,26 @@ fn best(tracks: [Track; ROOM], n: usize, limit: u32, margin: u32) -> Pick
     p
 }
 
-// Verdict: wait while the serving channel has fewer than 15 levels; else move to the best neighbour that counts, or stay.
+// The verdict of a watch that has a serving channel: wait while that has fewer than 15 levels; else move to the best neighbour that
+// counts, or stay.
+fn judged(w: Watch, hysteresis: u32) -> Answer
+    requires { ⌜ (wellFormed w ≡ true) × (0 < w .watched) × (hysteresis ≤ hysteresisHighest) ⌝ }
+    ensures { λ r. ⌜ told r ≡ gives (verdictOf (shown (rows w)) (pos hysteresis)) ⌝ }
+{
+    let tracks = w.tracks;
+    let s = tracks[0];
+    if s.count < DEPTH {
+        return Answer::Wait;
+    }
+    let margin = (DEPTH as u32) * hysteresis;
+    let p = best(tracks, w.watched, total(s), margin);
+    if !p.found {
+        return Answer::Stay;
+    }
+    Answer::MoveTo(p.channel)
+}
+
+// Verdict: wait, stay or move to a neighbour.
 pub fn verdict(w: Watch, hysteresis: i32) -> Handed
     ensures { λ r. ⌜ toldHanded r ≡ called w (Call.verdict hysteresis) ⌝ }
 {
@@ -557,19 +252,8 @@ pub fn verdict(w: Watch, hysteresis: i32) -> Handed
     if !hysteresis_ok(hysteresis) {
         return refused(w, Refusal::ParameterOutOfRange);
     }
-    let n = w.watched;
-    if n == 0 {
+    if w.watched == 0 {
         return refused(w, Refusal::NotWatched);
     }
-    let tracks = w.tracks;
-    let s = tracks[0];
-    if s.count < DEPTH {
-        return answered(w, Answer::Wait);
-    }
-    let margin = (DEPTH as u32) * (hysteresis as u32);
-    let p = best(tracks, n, total(s), margin);
-    if !p.found {
-        return answered(w, Answer::Stay);
-    }
-    answered(w, Answer::MoveTo(p.channel))
+    answered(w, judged(w, hysteresis as u32))
 }

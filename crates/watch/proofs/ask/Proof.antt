@@ -19,9 +19,10 @@ use Rattle.watch_rules.specs.Told.{ask, levels}
 use Rattle.watch_rules.specs.Rules.{mean}
 use Rattle.watch_rules.specs.Record.{rowOf, trackFine, wellFormed, called}
 use Rattle.watch_rules.proofs.Encode.{read-record, track-levels}
-use Rattle.watch_rules.proofs.Calls.{called-unformed, called-refused, called-granted, refuse-now, refuse-later, formed-short}
-use Rattle.watch.specs.Code.{nothing, back}
-use Rattle.watch.proofs.Watched.{place-watched, place-unwatched, found-place, found-below, found-fine, found-levels}
+use Rattle.watch_rules.proofs.Calls.{called-unformed, called-refused, called-granted, refuse-now, refuse-later}
+use Rattle.watch_record.specs.Code.{nothing, back}
+use Rattle.watch_list.proofs.Watched.{found-place, found-below}
+use Rattle.watch.proofs.Found.{place-watched, place-unwatched, found-fine, found-levels}
 use Rattle.watch.proofs.ask.Statement.{statement}
 use Rattle.watch.proofs.ask.Tie as tie
 
@@ -49,7 +50,7 @@ returns c =
     ∙ sym (called-unformed (a .w) (ask (a .channel)) (sym (c .before .before .well-formed .ensures) ∙ not-true _ (c .before .if1 .taken)))
 
 place-requires : tie.Need-place-requires
-place-requires c κs = formed-short (c .before .before .before .args .w) (formed (c .before))
+place-requires c κs = search needs
 
 refused-requires-2 : tie.Need-refused-requires-2
 refused-requires-2 c κs = search needs

@@ -5,15 +5,15 @@ use mathlib.Core.List.{List, map}
 use native.Mathlib.Omega.{arith}
 use native.Mathlib.Numerals.{add-one}
 use borrow.Author.Needs.{needs}
-use lib.ListN.{length, take, drop, getD, length-take}
+use lib.ListN.{length, take, drop, getD, length-take, drop-of-length-le}
 use lib.Seq.{drop-cons, getD-take}
 use Rattle.watch_rules.specs.declared.Track.{Track}
 use Rattle.watch_rules.specs.Limits.{room}
 use Rattle.watch_rules.specs.Record.{rowOf}
 use Rattle.watch_rules.proofs.Calls.{fine-at}
 use Rattle.watch.specs.declared.Pick.{Pick}
-use Rattle.watch.specs.Code.{nothing, consider, scan, nobody}
-use Rattle.watch.proofs.Places.{none-left}
+use Rattle.watch_record.specs.Code.{nothing}
+use Rattle.watch.specs.Code.{consider, scan, nobody}
 use Rattle.watch.proofs.best.Statement.{statement}
 use Rattle.watch.proofs.best.Tie as tie
 
@@ -34,7 +34,7 @@ module _ (lim mar : ℕ) (p : Pick) (n : ℕ) (ts : List Track) where
 
   -- none left
   scan-end : scan lim mar p (map rowOf (drop n (take n ts))) ≡ p
-  scan-end = ap (λ (us : List Track). scan lim mar p (map rowOf us)) (none-left n ts)
+  scan-end = ap (λ (us : List Track). scan lim mar p (map rowOf us)) (let l : length (take n ts) ≤ n = omega (arith, length-take n ts) in drop-of-length-le (take n ts) l)
 
 loop-holds : tie.Need-loop-holds Inv-loop μ-loop
 loop-holds c = (omega arith, omega (arith, c .pre .0), refl)

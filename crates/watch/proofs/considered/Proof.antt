@@ -4,13 +4,14 @@ use mathlib.Core.Path.{_≡_, sym, ap, ap₂, _∙_}
 use mathlib.Core.Bool.{Bool, true, false, cond, _&&_}
 use native.Mathlib.Omega.{arith}
 use borrow.Author.Needs.{needs}
-use borrow.Author.Tests.{le-leb, lt-leb, lt-ltb, le-ltb}
-use lib.Dec.{ltb}
+use borrow.Author.Tests.{le-leb, lt-leb, lt-ltb, le-ltb, leb-true, leb-false, ltb-true, ltb-false}
+use lib.Dec.{leb, ltb}
 use lib.ListN.{length}
 use Rattle.watch_rules.specs.Limits.{depth}
 use Rattle.watch_rules.specs.Rows.{Row}
 use Rattle.watch_rules.specs.Record.{rowOf}
 use Rattle.watch_rules.proofs.Depth.{depth-is}
+use Rattle.watch_rules.proofs.Laws.{byCase, or-true-right, or-false-left, or-false-right}
 use Rattle.watch_rules.proofs.Encode.{track-levels}
 use Rattle.watch.specs.declared.Pick.{Pick}
 use Rattle.watch.specs.Code.{allBelow, able, betterOf, pickOf, consider}
@@ -35,40 +36,43 @@ module _ (limit margin : ℕ) (p : Pick) (r : Row) where
 counted : (c : tie.Start) → length (rowOf (c .args .t) .levels) ≡ c .args .t .count
 counted c = track-levels (c .args .t) (c .pre .0) .counted
 
-enough : (c : tie.Else1) → depth ≤ length (rowOf (c .before .before .args .t) .levels)
-enough c = omega (arith, counted (c .before .before), c .if1 .left, depth-is)
-
-returns : tie.Need-returns
-returns c =
-    let a = c .before .before .args in
-    sym (too-few (a .limit) (a .margin) (a .p) (rowOf (a .t)) (omega (arith, counted (c .before .before), c .if1 .taken, depth-is)))
-
 total-requires : tie.Need-total-requires
 total-requires c κs = search needs
 
-add-if2 : tie.Need-add-if2
-add-if2 c =
-    let s = c .before .before .before in
-    record { fits = omega (arith, c .total .ensures, track-below-most (s .args .t) (s .pre .0), s .pre .1, depth-is) }
+add-if1 : tie.Need-add-if1
+add-if1 c =
+    let s = c .before .before in
+    record { fits = omega (arith, c .before .total .ensures, track-below-most (s .args .t) (s .pre .0), s .pre .1, depth-is) }
 
-returns-2 : tie.Need-returns-2
-returns-2 c =
-    let a = c .before .before .before .before .args in
-    let e = c .before .total .ensures in
-    sym (too-far (a .limit) (a .margin) (a .p) (rowOf (a .t)) (enough (c .before .before)) (omega (arith, c .if2 .taken)))
+returns : tie.Need-returns
+unfolding depth
+returns c =
+    let s = c .before .before .before in
+    let a = s .args in
+    let sum = c .before .before .total .result in
+    let e = c .before .before .total .ensures in
+    byCase (ltb (a .t .count) depth)
+    (λ q. sym (too-few (a .limit) (a .margin) (a .p) (rowOf (a .t)) (omega (arith, counted s, ltb-true (a .t .count) depth q))))
+    (λ q.
+    let far : a .limit ≤ sum + a .margin = leb-true (a .limit) (sum + a .margin) (or-true-right (ltb (a .t .count) depth) (leb (a .limit) (sum + a .margin)) (c .if1 .taken) q) in
+    sym (too-far (a .limit) (a .margin) (a .p) (rowOf (a .t)) (omega (arith, counted s, ltb-false (a .t .count) depth q)) (omega arith)))
 
 better-requires : tie.Need-better-requires
 better-requires c κs = search needs
 
-returns-3 : tie.Need-returns-3
-returns-3 c =
-    let e2 = c .before in
-    let a = e2 .before .before .before .before .args in
-    let e = e2 .before .total .ensures in
+returns-2 : tie.Need-returns-2
+unfolding depth
+returns-2 c =
+    let e1 = c .before in
+    let s = e1 .before .before .before in
+    let a = s .args in
+    let sum = e1 .before .before .total .result in
+    let e = e1 .before .before .total .ensures in
+    let enough = ltb-false (a .t .count) depth (or-false-left (ltb (a .t .count) depth) (leb (a .limit) (sum + a .margin)) (e1 .if1 .left)) in
+    let close = leb-false (a .limit) (sum + a .margin) (or-false-right (ltb (a .t .count) depth) (leb (a .limit) (sum + a .margin)) (e1 .if1 .left)) in
     c .better .ensures
     ∙ ap (λ (n : ℕ). betterOf (a .p) (pickOf (a .t .channel) n)) e
-    ∙ sym (near (a .limit) (a .margin) (a .p) (rowOf (a .t)) (enough (e2 .before .before)) (omega (arith, e2 .if2 .left)))
+    ∙ sym (near (a .limit) (a .margin) (a .p) (rowOf (a .t)) (omega (arith, counted s)) (omega arith))
 
 pub considered-spec : {M : Type 1} → statement M
-considered-spec =
-    tie.close (tie.spec returns total-requires add-if2 returns-2 better-requires returns-3)
+considered-spec = tie.close (tie.spec total-requires add-if1 returns better-requires returns-2)

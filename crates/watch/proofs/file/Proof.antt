@@ -3,17 +3,15 @@ use Prim.Native.Nat.{ℕ, _<_}
 use mathlib.Core.Path.{_≡_, sym, ap, _∙_}
 use mathlib.Core.Bool.{true}
 use mathlib.Core.Option.{some}
-use native.Mathlib.Omega.{arith}
 use borrow.Author.Needs.{needs}
 use borrow.Author.Tests.{not-true, not-false}
 use lib.IntN.{ℤ}
-use lib.ListN.{getD, set}
+use lib.ListN.{getD}
 use mir.Facts.{toZ-ofZ}
 use Rattle.refusal.specs.declared.Refusal.the-variants.{NotWatched, ReadingOutOfRange}
 use Rattle.refusal.specs.Told.{Told, gives, refused}
 use Rattle.readings.specs.Burst.{BurstResult, heard, missed, burstOf}
 use Rattle.readings.specs.Told.{toldBurst}
-use Rattle.watch_rules.specs.declared.Track.{Track}
 use Rattle.watch_rules.specs.declared.Watch.{Watch}
 use Rattle.watch_rules.specs.Limits.{room}
 use Rattle.watch_rules.specs.Told.{file, accepted}
@@ -21,10 +19,12 @@ use Rattle.watch_rules.specs.Rules.{watched, burstRefusal}
 use Rattle.watch_rules.specs.Rows.{push, shown, filedRows}
 use Rattle.watch_rules.specs.Record.{rows, rowOf, trackOf, recordOf, trackFine, wellFormed, called}
 use Rattle.watch_rules.proofs.Encode.{read-record}
-use Rattle.watch_rules.proofs.Calls.{called-unformed, called-refused, called-granted, refuse-now, refuse-later, formed-short}
-use Rattle.watch.specs.Code.{nothing, back}
-use Rattle.watch.proofs.Watched.{place-watched, place-unwatched, found-place, found-below, found-fine}
-use Rattle.watch.proofs.Stores.{watch-of, watch-pushed}
+use Rattle.watch_rules.proofs.Calls.{called-unformed, called-refused, called-granted, refuse-now, refuse-later}
+use Rattle.watch_record.specs.Code.{nothing, back}
+use Rattle.watch_list.proofs.Watched.{found-place, found-below}
+use Rattle.watch.specs.Code.{withTrack}
+use Rattle.watch.proofs.Found.{place-watched, place-unwatched, found-fine}
+use Rattle.watch.proofs.Filed.{watch-pushed}
 use Rattle.watch.proofs.file.Statement.{statement}
 use Rattle.watch.proofs.file.Tie as tie
 
@@ -62,7 +62,7 @@ returns c =
     ∙ sym (called-unformed (a .w) (file (a .channel) (a .burst)) (sym (c .before .before .well-formed .ensures) ∙ not-true _ (c .before .if1 .taken)))
 
 place-requires : tie.Need-place-requires
-place-requires c κs = formed-short (c .before .before .before .args .w) (formed (c .before))
+place-requires c κs = search needs
 
 refused-requires-2 : tie.Need-refused-requires-2
 refused-requires-2 c κs = search needs
@@ -81,8 +81,8 @@ burst-to-hundredths-requires c κs = search needs
 enum-told : tie.Need-enum-told
 enum-told c = search needs
 
-accepted-requires : tie.Need-accepted-requires
-accepted-requires c κs = search needs
+answered-requires : tie.Need-answered-requires
+answered-requires c κs = search needs
 
 enum-told-2 : tie.Need-enum-told-2
 enum-told-2 c = search needs
@@ -94,26 +94,14 @@ enum-known-r : tie.Need-enum-known-r
 enum-known-r c = search needs
 
 -- from the arm of a heard burst back to the place where the channel was found
-abbrev found-at : tie.After-known-told → tie.Else2
-found-at c = c .before .before .before .before
+abbrev found-at : tie.After-struct-told → tie.Else2
+found-at c = c .before .before .before .before .before
 
-mul-t : tie.Need-mul-t
-mul-t c = let h = below (found-at c) in omega arith
+with-level-requires : tie.Need-with-level-requires
+with-level-requires c κs = (below (found-at c), fine (found-at c))
 
-element-copy-out-t : tie.Need-element-copy-out-t
-element-copy-out-t c = below (found-at c)
-
-pushed-requires : tie.Need-pushed-requires
-pushed-requires c κs = fine (found-at (c .before .before))
-
-mul-u : tie.Need-mul-u
-mul-u c = let h = below (found-at (c .before .before .before)) in omega arith
-
-element-set-from-u : tie.Need-element-set-from-u
-element-set-from-u c = below (found-at (c .before .before .before))
-
-accepted-requires-2 : tie.Need-accepted-requires-2
-accepted-requires-2 c κs = search needs
+answered-requires-2 : tie.Need-answered-requires-2
+answered-requires-2 c κs = search needs
 
 -- what is granted of a burst that is not refused
 granted : (c : tie.Else2) (b : BurstResult) → burstOf (entry c .args .burst) ≡ gives b
@@ -130,7 +118,7 @@ returns-3 c =
     let e2 = told .before .before .before in
     let a = entry e2 .args in
     let b : burstOf (a .burst) ≡ gives missed = sym (told .before .before .burst-to-hundredths .ensures .0) ∙ ap toldBurst (told .enum-told .given .1) in
-    c .accepted .ensures
+    c .answered .ensures
     ∙ ap (λ (w : Watch). back w (gives accepted)) (sym (read-record (a .w) (formed-there e2) .back))
     ∙ sym (granted e2 missed b)
 
@@ -147,20 +135,22 @@ returns-4 c =
 returns-5 : tie.Need-returns-5
 returns-5 c =
     let st = c .before .before in
-    let kt = st .before .before in
-    let e2 = found-at kt in
+    let kt = st .before in
+    let e2 = found-at st in
     let a = entry e2 .args in
     let r = kt .before .r .given .0 .0 in
     let f = formed-there e2 in
     let p = e2 .before .place .ensures in
     let there = found-place (a .w) (a .channel) f p (e2 .if2 .left) in
+    let with-newest : ℕ → ℤ → Watch = λ i y. withTrack (a .w) i (trackOf (push y (rowOf (getD (a .w .tracks) i nothing)))) in
     let b : burstOf (a .burst) ≡ gives (heard (r .level) (r .quality)) =
     sym (kt .before .before .before .burst-to-hundredths .ensures .0) ∙ ap toldBurst (kt .before .r .given .1) in
-    c .accepted2 .ensures
-    ∙ ap (λ (t : Track). back (watch-of (a .w .watched) (set (a .w .tracks) (e2 .before .place .result) t)) (gives accepted)) (c .before .pushed .ensures)
-    ∙ ap (λ (y : ℤ). back (watch-of (a .w .watched) (set (a .w .tracks) (e2 .before .place .result) (trackOf (push y (rowOf (getD (a .w .tracks) (e2 .before .place .result) nothing)))))) (gives accepted)) (toZ-ofZ (record { sfits = st .struct-told .given .0 .1 }))
-    ∙ ap (λ (i : ℕ). back (watch-of (a .w .watched) (set (a .w .tracks) i (trackOf (push (r .level) (rowOf (getD (a .w .tracks) i nothing)))))) (gives accepted)) p
-    ∙ ap (λ (w : Watch). back w (gives accepted)) (watch-pushed (a .w) (a .channel) f there (r .level))
+    c .answered2 .ensures
+    ∙ ap (λ (w : Watch). back w (gives accepted))
+    (c .before .with-level .ensures
+    ∙ ap (with-newest (e2 .before .place .result)) (toZ-ofZ (record { sfits = st .struct-told .given .0 .1 }))
+    ∙ ap (λ (i : ℕ). with-newest i (r .level)) p
+    ∙ watch-pushed (a .w) (a .channel) f there (r .level))
     ∙ sym (granted e2 (heard (r .level) (r .quality)) b)
 
 pub file-spec : {M : Type 1} → statement M
@@ -175,16 +165,12 @@ file-spec =
     returns-2
     burst-to-hundredths-requires
     enum-told
-    accepted-requires
+    answered-requires
     enum-told-2
     refused-requires-3
     enum-known-r
-    mul-t
-    element-copy-out-t
-    pushed-requires
-    mul-u
-    element-set-from-u
-    accepted-requires-2
+    with-level-requires
+    answered-requires-2
     returns-3
     returns-4
     returns-5)

@@ -1,10 +1,12 @@
 -- As far as the levels were looked through, the sum is their distance below the top in all, and at most the range's span for each.
 use Prim.Native.Nat.{ℕ, _-_, _*_, _≤_}
-use mathlib.Core.Path.{_≡_, refl, sym, ap, _∙_}
+use mathlib.Core.Path.{_≡_, sym, ap, _∙_}
 use mathlib.Core.Bool.{true}
 use native.Mathlib.Omega.{arith}
 use lib.IntN.{pos}
 use lib.ListN.{take, getD}
+use mir.Syntax.{w32}
+use mir.Val.{SFits}
 use mir.Facts.{toZ-ofZ}
 use Rattle.readings.specs.Ranges.{levelInRange}
 use Rattle.watch_rules.specs.Limits.{capacity}
@@ -12,7 +14,7 @@ use Rattle.watch_rules.proofs.Depth.{depth-within}
 use Rattle.watch_rules.proofs.Laws.{take-none}
 use Rattle.watch_rules.proofs.Encode.{track-count, track-long, track-levels-fine}
 use Rattle.watch.specs.Code.{belowTop, allBelow, levelSpan}
-use Rattle.watch.proofs.Distance.{distance-most, level-tested}
+use Rattle.watch.proofs.Distance.{distance-most}
 use Rattle.watch.proofs.Sums.{below-more, range-at}
 use Rattle.watch.proofs.total.Statement.{statement}
 use Rattle.watch.proofs.total.Tie as tie
@@ -53,7 +55,8 @@ element-copy-out-x c = let h = few (c .before .before) in omega arith
 below-top-requires : tie.Need-below-top-requires Inv-loop μ-loop
 below-top-requires c κs =
     let t = c .before .before .before .args .t1 in
-    sym (level-tested (getD (t .levels) (c .before .before .loop .j) (pos 0)) (record { sfits = c .x .given }) refl) ∙ ranged (c .before)
+    let fits : SFits w32 (getD (t .levels) (c .before .before .loop .j) (pos 0)) = record { sfits = c .x .given } in
+    ap levelInRange (toZ-ofZ fits) ∙ ranged (c .before)
 
 add-sum : tie.Need-add-sum Inv-loop μ-loop
 add-sum c =

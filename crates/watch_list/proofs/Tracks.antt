@@ -1,0 +1,64 @@
+-- A channel's track is at its place, and it is the track of the channel's row.
+use Prim.Native.Nat.{ℕ, zero, suc, _≤_, _<_, suc-le-suc}
+use mathlib.Core.Path.{_≡_, refl, sym, ap, _∙_}
+use mathlib.Core.Bool.{Bool, true, false, cond}
+use mathlib.Core.List.{List, [], _∷_, map}
+use native.Mathlib.Omega.{arith}
+use lib.Dec.{eqb, ltb}
+use lib.IntN.{ℤ}
+use lib.ListN.{length, take, getD}
+use lib.Seq.{length-take-le}
+use borrow.Author.Tests.{eqb-true, ltb-true, ltb-false}
+use Rattle.watch_rules.specs.declared.Track.{Track}
+use Rattle.watch_rules.specs.Lists.{mem}
+use Rattle.watch_rules.specs.Rows.{row, levelsOf}
+use Rattle.watch_rules.specs.Record.{rowOf, trackOf, tracksFine, trackFine}
+use Rattle.watch_rules.proofs.Laws.{byCase, clash, and-left, and-right, or-true-right, levels-none}
+use Rattle.watch_rules.proofs.Encode.{track-read, tracks-read}
+use Rattle.watch_record.specs.Code.{nothing, placeOf, channelsOf}
+use Rattle.watch_record.proofs.Scan.{channels-rows, place-within, place-without}
+use Rattle.watch_list.specs.Code.{keptFrom}
+
+-- the track at the place of a channel is that of the channel's row
+pub track-at : (n c : ℕ) (ts : List Track) → tracksFine n ts ≡ true → mem c (channelsOf (take n ts)) ≡ true
+    → trackOf (row c (levelsOf c (map rowOf (take n ts)))) ≡ getD ts (placeOf c (take n ts)) nothing
+track-at zero c [] e h = clash h refl
+track-at zero c (t ∷ ts) e h = clash h refl
+track-at (suc n) c [] e h = clash e refl
+track-at (suc n) c (t ∷ ts) e h =
+    byCase (eqb (t .channel) c)
+    (λ q. rw q (ap (λ (k : ℕ). trackOf (row k (take (t .count) (t .levels)))) (sym (eqb-true (t .channel) c q)) ∙ track-read t (and-left (trackFine t) (tracksFine n ts) e) .back))
+    (λ q. rw q (track-at n c ts (and-right (trackFine t) (tracksFine n ts) e) (or-true-right (eqb (t .channel) c) (mem c (channelsOf (take n ts))) h q)))
+
+-- a place below n is that of a channel among them, n that of any other
+module _ (n c : ℕ) (ts : List Track) (fine : tracksFine n ts ≡ true) where
+  as-many : length (take n ts) ≡ n
+  as-many = length-take-le n ts (tracks-read n ts fine .within)
+
+  pub place-among : placeOf c (take n ts) < n → mem c (channelsOf (take n ts)) ≡ true
+  place-among h = place-within c (take n ts) (omega (arith, as-many))
+
+  pub place-outside : n ≤ placeOf c (take n ts) → mem c (channelsOf (take n ts)) ≡ false
+  place-outside h = place-without c (take n ts) (omega (arith, as-many))
+
+  -- the channel with the levels at its own place is the track of its row, with the levels that it had
+  pub kept-levels : keptFrom ts n (placeOf c (take n ts)) c ≡ trackOf (row c (levelsOf c (map rowOf (take n ts))))
+  kept-levels =
+      byCase (ltb (placeOf c (take n ts)) n)
+      (λ q. ap (λ (b : Bool). cond b (renamed (getD ts (placeOf c (take n ts)) nothing)) (trackOf (row c []))) q
+      ∙ ap renamed (sym (track-at n c ts fine (place-among (ltb-true (placeOf c (take n ts)) n q)))))
+      (λ q. ap (λ (b : Bool). cond b (renamed (getD ts (placeOf c (take n ts)) nothing)) (trackOf (row c []))) q
+      ∙ sym (ap (λ (l : List ℤ). trackOf (row c l)) (levels-none c (map rowOf (take n ts))
+      (ap (mem c) (channels-rows (take n ts)) ∙ place-outside (ltb-false (placeOf c (take n ts)) n q)))))
+    where
+      renamed : Track → Track
+      renamed t = record { channel = c; count = t .count; levels = t .levels }
+
+pub place-most : (c n : ℕ) (ts : List Track) → placeOf c (take n ts) ≤ n
+place-most c zero [] = omega arith
+place-most c zero (t ∷ ts) = omega arith
+place-most c (suc n) [] = omega arith
+place-most c (suc n) (t ∷ ts) =
+    byCase (eqb (t .channel) c)
+    (λ q. rw q (omega arith))
+    (λ q. rw q (suc-le-suc (place-most c n ts)))

@@ -1,0 +1,2 @@
+-- What the private functions return.
+pub mod Code

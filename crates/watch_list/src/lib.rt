@@ -1,0 +1,175 @@
+// The calls that change which channels a watch has: start, new list and move. Document 01, section The watch. Each takes the watch by
+// value and hands it back beside its answer; refused, it hands back the very watch that it was given. Users name them as `watch::start`,
+// `watch::new_list` and `watch::move_to`.
+ghost use mathlib.Core.Path.{_≡_};
+ghost use mathlib.Core.Bool.{true, _&&_};
+ghost use mathlib.Core.List.{map};
+ghost use Prim.Native.Nat.{_≤_, _<_};
+ghost use lib.ListN.{length, take, getD};
+ghost use Rattle.watch_rules.specs.Lists.{mem, every, distinct};
+ghost use Rattle.watch_rules.specs.Limits.{channelInRange, listLimit, room};
+ghost use Rattle.watch_rules.specs.Told.{Call, toldHanded};
+ghost use Rattle.watch_rules.specs.Rules.{listSound};
+ghost use Rattle.watch_rules.specs.Rows.{relisted};
+ghost use Rattle.watch_rules.specs.Record.{recordOf, rowOf, tracksFine, called};
+ghost use Rattle.watch_record.specs.Code.{nothing};
+ghost use Rattle.watch_list.specs.Code.{keptFrom, servingOf, exchange};
+use refusal::Refusal;
+use watch_record::answered;
+use watch_record::empty;
+use watch_record::fresh;
+use watch_record::place;
+use watch_record::refused;
+use watch_record::well_formed;
+use watch_rules::Answer;
+use watch_rules::CHANNEL_HIGHEST;
+use watch_rules::Handed;
+use watch_rules::LIST_LIMIT;
+use watch_rules::ROOM;
+use watch_rules::Track;
+use watch_rules::Watch;
+
+// Start: that channel alone, without levels.
+pub fn start(w: Watch, serving: u16) -> Handed
+    ensures { λ r. ⌜ toldHanded r ≡ called w (Call.start serving) ⌝ }
+{
+    if !well_formed(w) {
+        return refused(w, Refusal::RecordNotWellFormed);
+    }
+    if serving > CHANNEL_HIGHEST {
+        return refused(w, Refusal::ChannelOutOfRange);
+    }
+    let mut started = fresh();
+    let t = empty(serving);
+    started.tracks[0] = t;
+    started.watched = 1;
+    answered(started, Answer::Accepted)
+}
+
+// The channel is among the first n of the list.
+fn has(list: &[u16], n: usize, channel: u16) -> bool
+    requires { ⌜ n ≤ length (now list) ⌝ }
+    ensures { λ r. ⌜ r ≡ mem channel (take n (now (list .entry))) ⌝ }
+{
+    let mut i = 0;
+    while i < n {
+        if list[i] == channel {
+            return true;
+        }
+        i += 1;
+    }
+    false
+}
+
+// The channels of the list lie in the range and differ.
+fn channels_ok(list: &[u16]) -> bool
+    ensures { λ r. ⌜ r ≡ (every channelInRange (now (list .entry)) && distinct (now (list .entry))) ⌝ }
+{
+    let n = list.len();
+    let mut i = 0;
+    while i < n {
+        let c = list[i];
+        if (c > CHANNEL_HIGHEST) | has(list, i, c) {
+            return false;
+        }
+        i += 1;
+    }
+    true
+}
+
+// The list may be taken: at most 6 channels, in range, no repeat, and not the serving channel.
+fn list_ok(list: &[u16], watched: usize, serving: u16) -> bool
+    ensures { λ r. ⌜ r ≡ listSound (servingOf watched serving) (now (list .entry)) ⌝ }
+{
+    let n = list.len();
+    if n > LIST_LIMIT {
+        return false;
+    }
+    channels_ok(list) & ((watched == 0) | !has(list, n, serving))
+}
+
+// The channel with the levels of the track at place p; without levels where p is not below n.
+fn kept(old: [Track; ROOM], n: usize, p: usize, channel: u16) -> Track
+    requires { ⌜ n ≤ room ⌝ }
+    ensures { λ r. ⌜ r ≡ keptFrom old n p channel ⌝ }
+{
+    if p < n {
+        let mut t = old[p];
+        t.channel = channel;
+        return t;
+    }
+    empty(channel)
+}
+
+// The serving channel, which is the first, and the channels of the list, in this order, each with the levels that it had.
+fn relist(old: [Track; ROOM], n: usize, list: &[u16]) -> Watch
+    requires { ⌜ (0 < n) × (n ≤ room) × (tracksFine n old ≡ true) × (length (now list) ≤ listLimit) ⌝ }
+    ensures { λ r. ⌜ r ≡ recordOf (relisted (getD old 0 nothing .channel) (now (list .entry)) (map rowOf (take n old))) ⌝ }
+{
+    let mut v = fresh();
+    let s = old[0];
+    v.tracks[0] = s;
+    let k = list.len();
+    let mut i = 0;
+    while i < k {
+        let c = list[i];
+        let at = i + 1;
+        // The channel's place before, not its place in the list.
+        let p = place(old, n, c);
+        let t = kept(old, n, p, c);
+        v.tracks[at] = t;
+        i += 1;
+    }
+    v.watched = k + 1;
+    v
+}
+
+// New list: replaces the neighbours; a channel watched before and after keeps its levels.
+pub fn new_list(w: Watch, list: &[u16]) -> Handed
+    ensures { λ r. ⌜ toldHanded r ≡ called w (Call.newList (now (list .entry))) ⌝ }
+{
+    if !well_formed(w) {
+        return refused(w, Refusal::RecordNotWellFormed);
+    }
+    let tracks = w.tracks;
+    let n = w.watched;
+    let s = tracks[0];
+    if !list_ok(list, n, s.channel) {
+        return refused(w, Refusal::ListFaulty);
+    }
+    if n == 0 {
+        return refused(w, Refusal::NotWatched);
+    }
+    let listed = relist(tracks, n, list);
+    answered(listed, Answer::Accepted)
+}
+
+// The watch with its first track and the one at place p exchanged.
+fn exchanged(w: Watch, p: usize) -> Watch
+    requires { ⌜ p < room ⌝ }
+    ensures { λ r. ⌜ r ≡ exchange w p ⌝ }
+{
+    let mut v = w;
+    let s = v.tracks[0];
+    let t = v.tracks[p];
+    v.tracks[0] = t;
+    v.tracks[p] = s;
+    v
+}
+
+// Move: the neighbour becomes serving, the old serving channel takes its place in the list; both keep their levels.
+pub fn move_to(w: Watch, channel: u16) -> Handed
+    ensures { λ r. ⌜ toldHanded r ≡ called w (Call.move channel) ⌝ }
+{
+    if !well_formed(w) {
+        return refused(w, Refusal::RecordNotWellFormed);
+    }
+    let n = w.watched;
+    let tracks = w.tracks;
+    let p = place(tracks, n, channel);
+    if (p == n) | (p == 0) {
+        return refused(w, Refusal::NotWatched);
+    }
+    let moved = exchanged(w, p);
+    answered(moved, Answer::Accepted)
+}

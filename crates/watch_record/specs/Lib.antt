@@ -1,0 +1,2 @@
+-- What the functions return that ask the record.
+pub mod Code
