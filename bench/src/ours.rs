@@ -45,7 +45,8 @@ unsafe extern "C" {
     pub safe fn royukezan_power_step_failed(r: &mut PowerRecord, p: PowerParameters, sqi: i32) -> SentAnswer;
 }
 
-// libbench_sweep.a, libbench_choice.a and libbench_watch.a: loops over sweep, choice and watch, whose calls take enums and so do not cross the border.
+// libbench_sweep.a, libbench_choice.a and libbench_watch.a: loops over sweep, choice and watch, whose calls take enums and so do not
+// cross the border.
 unsafe extern "C" {
     pub safe fn bench_sweep(kind: u32, ticks: u32, seed: u32) -> u32;
     pub safe fn bench_choice(kind: u32, ticks: u32, seed: u32) -> u32;

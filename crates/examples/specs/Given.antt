@@ -7,7 +7,7 @@ use lib.Ieee.{Float, binary32, ofBits}
 use Rattle.refusal.specs.Told.{Told, refused, gives}
 use Rattle.readings.specs.declared.Burst.{Burst}
 use Rattle.readings.specs.declared.Burst.the-variants.{Heard}
-use Rattle.sweep_rules.specs.Map.{channels, words, withBit}
+use Rattle.sweep_rules.specs.Map.{channels, withBit}
 use Rattle.sweep_rules.specs.Record.{freshSweep}
 use Rattle.sweep_rules.specs.declared.Sweep.{Sweep}
 use Rattle.choice_rules.specs.Choose.{notRead, suitable, barred}

@@ -1,6 +1,5 @@
 -- Document 01, section Checked examples: one table, and the one statement that every row of it holds. All lines marked P are in it, each under the
 -- paper's words; so are those that are not, which are run besides.
-use Prim.Native.Nat.{ℕ}
 use mathlib.Core.Path.{_≡_}
 use mathlib.Core.List.{List, [], _∷_}
 use lib.IntN.{pos}

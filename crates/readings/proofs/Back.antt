@@ -1,28 +1,27 @@
 -- Hundredths shown as a float, and converted again, are the same hundredths.
 -- In units of 2 ^ -149 the float is a multiple G of 2 ^ k that is nearest to n 2 ^ 149 / 100, so 100 G is within 50 * 2 ^ k of n 2 ^ 149. That is less than half of 2 ^ 149.
 use mathlib.Core.Path.{_≡_, refl, sym, ap, _∙_, subst}
-use mathlib.Core.Bool.{Bool, true, false, not, _&&_, cond}
-use mathlib.Core.Logic.{_⊎_, inl, inr}
+use mathlib.Core.Bool.{Bool, true, false, not, _&&_}
 use Prim.Native.Nat.{ℕ, zero, suc, _+_, _-_, _*_, _/_, _%_, _^_, _≤_, _<_, zero-le, compare, Ordering, Ordering·lt, Ordering·eq, Ordering·gt}
-use native.Mathlib.Nat.{mul-one, one-mul, zero-mul, mul-zero, mul-comm, mul-assoc, mul-left-comm, mul-right-comm, add-mul, suc-mul, div-add-mod', mod-lt, mul-le-mul-right, mul-le-mul-left, mul-lt-mul-of-pos-right, le-of-mul-le-mul-right, lt-of-mul-lt-mul-right, le-trans, le-of-eq, le-of-lt, lt-of-le-of-lt, lt-of-lt-of-le, div-lt-iff-lt-mul, div-le-self, le-antisymm, mul-pos, le-of-suc-le-suc, lt-of-not-le}
+use native.Mathlib.Nat.{one-mul, zero-mul, mul-comm, mul-assoc, mul-left-comm, mul-right-comm, add-mul, suc-mul, div-add-mod', mod-lt, mul-le-mul-right, mul-le-mul-left, mul-lt-mul-of-pos-right, le-of-mul-le-mul-right, le-trans, le-of-eq, le-of-lt, lt-of-le-of-lt, div-le-self, mul-pos, le-of-suc-le-suc, lt-of-not-le}
 use native.Mathlib.Omega.{arith}
-use lib.Dec.{T, leb, eqb, isLe, isEq, leb→le, le→leb, nleb→lt, eqb→eq, lit<, lit≤}
+use lib.Dec.{T, leb, eqb, isLe, isEq, leb→le, nleb→lt, eqb→eq, lit<, lit≤}
 use lib.Pow.{pow-pos, pow-mono, pow-add}
-use lib.IntN.{ℤ, pos, negsuc, negℤ, natAbs, _*ℤ_}
+use lib.IntN.{ℤ, pos, negsuc, natAbs, _*ℤ_}
 use lib.Signed.{leZ}
 use lib.Ieee.{Float, nan, inf, fin, up, down, binary32, nearest, size, round, units, div, ofInt, unlike}
 use lib.Ieee.Digits.{size-le}
-use lib.Ieee.Fits.{down-pos, round-is, and-i, and-l, and-r, eq→eqb}
+use lib.Ieee.Fits.{down-pos, round-is, and-i, and-l, and-r}
 use lib.Ieee.Exact.{HasValue, units-val}
 use lib.Ieee.Nearest.{closest}
 use lib.Ieee.Scale.{round-same}
 use lib.Ieee.Back.{round-whole}
 use lib.Ieee.Bits.{is-true}
 use lib.Arith.{le-zero}
-use Rattle.refusal.specs.Told.{Told, gives, refused}
+use Rattle.refusal.specs.Told.{gives, refused}
 use Rattle.refusal.proofs.OneToOne.{gives-refused}
-use Rattle.readings.specs.Ranges.{inRange, levelLow, levelHigh, qualityLow, qualityHigh, levelInRange, qualityInRange}
-use Rattle.readings.specs.Hundredths.{signed, within, converted, hundredthsOf, whereInRange, levelOf, qualityOf}
+use Rattle.readings.specs.Ranges.{inRange}
+use Rattle.readings.specs.Hundredths.{signed, within, converted, hundredthsOf, whereInRange}
 use Rattle.readings.specs.Float.{floatOf, shown}
 use Rattle.readings.specs.Code.{Near}
 use Rattle.readings.proofs.Fields.{near-hundredths}

@@ -1,8 +1,8 @@
 -- A burst by its two hundredths, and that these lie in their ranges: a nearest whole number does not leave a range with whole ends.
 use mathlib.Core.Path.{_≡_, refl, sym, ap, ap₂, subst, _∙_}
-use mathlib.Core.Bool.{Bool, true, false, _&&_}
+use mathlib.Core.Bool.{Bool, true, false}
 use Prim.Native.Nat.{ℕ, zero, suc, _+_, _*_, _≤_, _<_}
-use native.Mathlib.Nat.{zero-mul, suc-mul, mul-le-mul-right, mul-assoc, mul-right-comm, le-of-suc-le-suc, lt-of-not-le}
+use native.Mathlib.Nat.{zero-mul, suc-mul, mul-le-mul-right, mul-right-comm, le-of-suc-le-suc, lt-of-not-le}
 use native.Mathlib.Omega.{arith}
 use lib.Dec.{T}
 use lib.Arith.{le-zero}

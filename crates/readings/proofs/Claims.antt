@@ -1,6 +1,5 @@
 -- The claims on readings and bursts, under their names; the rounding rule is proved in `Rule.antt`.
 use mathlib.Core.Path.{_≡_, refl, sym, ap, subst}
-use mathlib.Core.Bool.{true}
 use lib.Dec.{T, lit<}
 use lib.IntN.{ℤ, pos}
 use lib.Ieee.{Float, binary32, ofInt}

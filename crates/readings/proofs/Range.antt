@@ -2,10 +2,10 @@
 use mathlib.Core.Path.{_≡_, refl, sym, ap, _∙_, subst}
 use mathlib.Core.Bool.{Bool, true, false, not, _&&_, _||_}
 use mathlib.Core.Logic.{_⊎_, inl, inr}
-use Prim.Native.Nat.{ℕ, zero, suc, _+_, _*_, _^_, _≤_, _<_, zero-le, suc-le-suc}
+use Prim.Native.Nat.{ℕ, zero, suc, _+_, _*_, _≤_, _<_, zero-le, suc-le-suc}
 use native.Mathlib.Nat.{mul-one, zero-mul, le-trans, le-of-eq, le-of-lt, lt-of-le-of-lt, lt-of-lt-of-le, mul-le-mul-right, le-of-mul-le-mul-right, mul-right-comm, mul-lt-mul-of-pos-right, eq-or-lt-of-le}
 use native.Mathlib.Omega.{arith}
-use lib.Dec.{T, leb, ltb, eqb, leb→le, le→leb, lt→ltb, nltb→le, leb·zero, leb·suc-zero, leb·suc-suc, eqb·zero-suc, eqb·suc-zero, eqb·suc-suc, ltb→lt, eqb→eq, lit≤}
+use lib.Dec.{T, leb, ltb, eqb, leb→le, le→leb, lt→ltb, leb·zero, leb·suc-zero, leb·suc-suc, eqb·zero-suc, eqb·suc-zero, ltb→lt, eqb→eq, lit≤}
 use lib.Arith.{le-zero}
 use lib.IntN.{ℤ, pos, negsuc, negℤ, natAbs, _*ℤ_}
 use lib.Signed.{leZ, mag}
@@ -14,7 +14,7 @@ use mir.Val.{SFits}
 use lib.Ieee.{Float, nan, inf, fin, up, down, below, level, le, binary32, ofInt, inFloat}
 use lib.Ieee.Exact.{HasValue}
 use lib.Ieee.Back.{round-whole}
-use lib.Ieee.Bits.{is-true, is-false}
+use lib.Ieee.Bits.{is-true}
 use lib.Ieee.Fits.{down-pos, and-i, and-l, and-r, eq→eqb}
 use Rattle.refusal.specs.declared.Refusal.the-variants.{ReadingOutOfRange}
 use Rattle.refusal.specs.Told.{gives, refusedFor}

@@ -1,20 +1,20 @@
 -- The rounding rule as it is said: `nearestLower` is the whole number nearest to n / d, of two the lower, and no other is.
 -- A distance is compared by signs and sizes: of two numbers with one sign it is the gap of their sizes, else their sum. The number k has 2 |n - k d| ≤ d, and any other is at least d from k.
 use Prim.Native.Nat.{ℕ, zero, suc, _+_, _-_, _*_, _≤_, _<_}
-use mathlib.Core.Path.{_≡_, refl, sym, ap, ap₂, subst, _∙_}
-use mathlib.Core.Bool.{Bool, true, false, not, _&&_}
+use mathlib.Core.Path.{_≡_, refl, sym, ap, subst, _∙_}
+use mathlib.Core.Bool.{Bool, true, false, not}
 use native.Mathlib.Nat.{suc-mul, mul-le-mul-right, le-antisymm, le-refl, le-of-suc-le-suc, lt-of-not-le}
 use native.Mathlib.Omega.{arith}
-use borrow.Author.Tests.{le-ltb, lt-ltb, ltb-true, ltb-false}
+use borrow.Author.Tests.{ltb-true, ltb-false}
 use lib.Dec.{T, ltb, leb, leb→le, le→leb, eqb}
 use lib.IntN.{ℤ, pos, negsuc, negℤ, negℤ-negℤ, natAbs, subℕ, _+ℤ_, _-ℤ_, _*ℤ_}
-use lib.Signed.{leZ, _≤ℤ_, leZ-yes}
-use lib.Ieee.{fin, up, down}
+use lib.Signed.{leZ, leZ-yes}
+use lib.Ieee.{down}
 use lib.Ieee.Fits.{down-pos, and-i, eq→eqb}
 use Rattle.readings.specs.Rounding.{distance, NearestLower, nearestLower}
 use Rattle.readings.specs.Hundredths.{signed, numerator, hundredthsOf}
 use Rattle.readings.specs.Code.{Near}
-use Rattle.readings.specs.Claims.{RoundsTo, RoundingRule, HundredthsRule}
+use Rattle.readings.specs.Claims.{RoundingRule, HundredthsRule}
 use Rattle.readings.proofs.Near.{near-is, near-size, sizeOf, no-multiple}
 use Rattle.readings.proofs.Range.{isNeg, signed-is, scaled, neg-neg, pos-neg}
 

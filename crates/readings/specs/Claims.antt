@@ -2,7 +2,6 @@
 use Prim.Native.Nat.{ℕ, _*_, _<_}
 use mathlib.Core.Path.{_≡_}
 use mathlib.Core.Bool.{Bool, true}
-use mathlib.Core.Logic.{_↔_}
 use lib.Dec.{T}
 use lib.IntN.{ℤ, pos, _*ℤ_}
 use lib.Ieee.{Float, fin, down, binary32, fits}

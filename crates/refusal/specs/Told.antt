@@ -1,7 +1,6 @@
 -- What a call answers, in document 01's terms: the number of a refusal, or the values of an accepted call.
 -- Every crate maps its answers to these by a definition `told..`, and its contracts speak of an answer through that definition.
 use Prim.Native.Nat.{ℕ}
-use mathlib.Core.Path.{_≡_}
 use Rattle.refusal.specs.declared.Refusal.{Refusal}
 use Rattle.refusal.specs.declared.Outcome.{Outcome}
 use Rattle.refusal.specs.declared.Outcome.the-variants.{Accepted, Refused}

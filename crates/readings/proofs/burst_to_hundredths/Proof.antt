@@ -4,7 +4,7 @@ use lib.IntN.{ℤ}
 use mir.Syntax.{w32}
 use mir.Val.{toZ, ofZ}
 use Rattle.refusal.specs.Told.{Told, gives}
-use Rattle.readings.specs.Burst.{BurstResult, heard, burstOf, bothOf, InRange}
+use Rattle.readings.specs.Burst.{heard, burstOf}
 use Rattle.readings.specs.Told.{toldHundredths}
 use Rattle.readings.proofs.Bursts.{burst-is, in-range-too}
 use borrow.Author.Needs.{needs}

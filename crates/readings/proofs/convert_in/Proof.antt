@@ -1,6 +1,6 @@
 -- `readings::convert_in` meets its contract: by `Range`.
 use mathlib.Core.Path.{_≡_, sym, subst, _∙_}
-use mathlib.Core.Bool.{Bool, true}
+use mathlib.Core.Bool.{Bool}
 use native.Mathlib.Nat.{lt-of-lt-of-le}
 use lib.Dec.{T, lit≤}
 use lib.IntN.{ℤ}

@@ -1,7 +1,7 @@
 -- `readings::rounded` meets its contract: by `Fields`.
 use mathlib.Core.Path.{sym, subst}
 use mathlib.Core.Bool.{Bool}
-use Prim.Native.Nat.{ℕ, _+_, _-_, _*_, _/_, _%_, _^_}
+use Prim.Native.Nat.{_+_, _-_, _*_, _/_, _%_, _^_}
 use native.Mathlib.Omega.{arith}
 use lib.Dec.{lit<}
 use Rattle.readings.specs.Code.{Near, inUnits}
