@@ -150,16 +150,19 @@ fn ones(map: [u64; 17]) -> u32
     n
 }
 
-// The lowest channel of the sweep whose bit is clear.
-fn lowest_clear(map: &[u64; 17]) -> NextChannel
-    ensures { λ r. ⌜ toldNext r ≡ gives (lowestNot (isSet (now (map .entry))) sweptChannels firstSwept) ⌝ }
+// The lowest channel of the sweep whose bit is clear. Each turn passes the set bits from c on in one word; the bits above the word, which
+// the shift brings in, are clear.
+fn lowest_clear(map: [u64; 17]) -> NextChannel
+    ensures { λ r. ⌜ toldNext r ≡ gives (lowestNot (isSet map) sweptChannels firstSwept) ⌝ }
 {
     let mut c = FIRST_SWEPT;
     while c <= LAST_SWEPT {
-        if !is_set(map, c) {
+        let w = map[c / WORD_BITS];
+        let run = u64::trailing_zeros(!(w >> (c % WORD_BITS)));
+        if run == 0 {
             return NextChannel::Channel(c as u16);
         }
-        c += 1;
+        c += run as usize;
     }
     NextChannel::Done
 }
@@ -257,7 +260,8 @@ pub fn next(sweep: Sweep) -> SweepNext
             answer: NextChannel::Refused(Refusal::RecordNotWellFormed),
         };
     }
-    let answer = lowest_clear(&sweep.visited);
+    let visited = sweep.visited;
+    let answer = lowest_clear(visited);
     SweepNext { sweep, answer }
 }
 

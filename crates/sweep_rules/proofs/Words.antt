@@ -1,21 +1,21 @@
 -- Laws of the bits of a word. A word is split at a place k into what stands above it, its bit and what stands below it; the ones and the
 -- common bits of two words go bit by bit from the lowest.
 use Prim.Native.Nat.{ℕ, zero, suc, _+_, _-_, _*_, _/_, _%_, _^_, _≤_, _<_}
-use mathlib.Core.Path.{_≡_, sym, ap, _∙_, subst}
+use mathlib.Core.Path.{_≡_, refl, sym, ap, _∙_, subst}
 use mathlib.Core.Bool.{true, false, cond}
 use mathlib.Core.Logic.{⊎-elim}
-use native.Mathlib.Nat.{zero-mul, one-mul, mod-eq-of-lt, div-eq-of-lt, zero-add, div-one, add-assoc, mod-lt, pow-suc, add-div-right, add-mul-div-right}
+use native.Mathlib.Nat.{not-suc-le-zero, lt-of-le-of-lt, lt-of-lt-of-le, lt-of-not-le, zero-mul, one-mul, mod-eq-of-lt, div-eq-of-lt, zero-add, div-one, add-assoc, mod-lt, pow-suc, add-div-right, add-mul-div-right}
 use native.Mathlib.Numerals.{add-one, one-add}
 use native.Mathlib.Omega.{arith}
-use lib.Count.{ones, ones-step, ones-le}
+use lib.Count.{ones, ones-step, ones-le, trailingZeros, under}
 use lib.Bits.{bitAnd, and-step, and-shr}
-use lib.Pow.{field, mod-mod-pow, shr-shr, shr-lt, mod-pow-add, split, high, pow-pos, pow-add, pow-lt}
+use lib.Pow.{field, mod-mod-pow, shr-shr, shr-lt, shr-le, pow-mono, mod-pow-add, split, high, pow-pos, pow-add, pow-lt}
 use lib.Arith.{digits-lt, lt-one}
 use lib.Dec.{lit<, eqb}
 use borrow.Author.Tests.{eqb-true, eqb-false, eq-eqb}
 use Rattle.sweep_rules.specs.Map.{bitAt, allBelow, howMany}
 use Rattle.sweep_rules.specs.Record.{implies}
-use Rattle.sweep_rules.proofs.Tests.{which, same-test, implied, follows, each-all, all-each}
+use Rattle.sweep_rules.proofs.Tests.{which, fails, same-test, implied, follows, each-all, all-each}
 
 -- the bit as a digit
 
@@ -165,3 +165,68 @@ module _ (w k : ℕ) (clear : bitAt w k ≡ false) where
 -- the shift that makes a power of two, below the width
 pub power-is : (k : ℕ) → k < 64 → (1 * 2 ^ k) % 18446744073709551616 ≡ 2 ^ k
 power-is k h = mod-eq-of-lt (subst (λ (n : ℕ). n < 2 ^ 64) (sym (one-mul (2 ^ k))) (pow-lt h)) ∙ one-mul (2 ^ k)
+
+-- ---- a run of set bits: the zeros at the low end of a word turned over
+
+module _ (P x : ℕ) (h : x < P * 2) where
+  over-digit : (P * 2 - 1 - x) % 2 ≡ 1 - x % 2
+  over-digit = omega arith
+
+  over-half : (P * 2 - 1 - x) / 2 ≡ P - 1 - x / 2
+  over-half = omega arith
+
+-- each bit in the run is set
+pub run-set : (k x j : ℕ) → x < 2 ^ k → j < trailingZeros k (2 ^ k - 1 - x) → x / 2 ^ j % 2 ≡ 1
+unfolding trailingZeros
+run-set zero x j h l = absurd (not-suc-le-zero l)
+run-set (suc k) x j h l =
+    let e = pow-suc 2 k in
+    let b : x < 2 ^ k * 2 = subst (λ (n : ℕ). x < n) e h in
+    let d : (2 ^ suc k - 1 - x) % 2 ≡ 1 - x % 2 = ap (λ (n : ℕ). (n - 1 - x) % 2) e ∙ over-digit (2 ^ k) x b in
+    let q : (2 ^ suc k - 1 - x) / 2 ≡ 2 ^ k - 1 - x / 2 = ap (λ (n : ℕ). (n - 1 - x) / 2) e ∙ over-half (2 ^ k) x b in
+    by j (x % 2) refl (subst (λ (n : ℕ). j < under n (trailingZeros k ((2 ^ suc k - 1 - x) / 2))) d l)
+    (λ i m. run-set k (x / 2) i (omega arith) (subst (λ (n : ℕ). i < trailingZeros k n) q m))
+  where
+    by : (j r : ℕ) → x % 2 ≡ r → j < under (1 - x % 2) (trailingZeros k ((2 ^ suc k - 1 - x) / 2))
+        → ((i : ℕ) → i < trailingZeros k ((2 ^ suc k - 1 - x) / 2) → x / 2 / 2 ^ i % 2 ≡ 1) → x / 2 ^ j % 2 ≡ 1
+    by j zero e l ih = absurd (not-suc-le-zero (subst (λ (n : ℕ). j < under (1 - n) (trailingZeros k ((2 ^ suc k - 1 - x) / 2))) e l))
+    by zero (suc r) e l ih = ap (λ (n : ℕ). n % 2) (div-one x) ∙ omega arith
+    by (suc i) (suc r) e l ih =
+        let o : x % 2 ≡ 1 = omega arith in
+        let m : suc i < suc (trailingZeros k ((2 ^ suc k - 1 - x) / 2)) = subst (λ (n : ℕ). suc i < under (1 - n) (trailingZeros k ((2 ^ suc k - 1 - x) / 2))) o l in
+        ap (λ (n : ℕ). n % 2) (sym (shr-shr x 1 i ∙ ap (λ (n : ℕ). x / 2 ^ n) (one-add i))) ∙ ih i (omega arith)
+
+-- no run: the lowest bit is clear
+pub run-none : (k x : ℕ) → x < 2 ^ suc k → trailingZeros (suc k) (2 ^ suc k - 1 - x) ≡ 0 → x % 2 ≡ 0
+unfolding trailingZeros
+run-none k x h z =
+    let e = pow-suc 2 k in
+    let b : x < 2 ^ k * 2 = subst (λ (n : ℕ). x < n) e h in
+    let d : (2 ^ suc k - 1 - x) % 2 ≡ 1 - x % 2 = ap (λ (n : ℕ). (n - 1 - x) % 2) e ∙ over-digit (2 ^ k) x b in
+    by (x % 2) refl (sym (ap (λ (n : ℕ). under n (trailingZeros k ((2 ^ suc k - 1 - x) / 2))) d) ∙ z)
+  where
+    by : (r : ℕ) → x % 2 ≡ r → under (1 - x % 2) (trailingZeros k ((2 ^ suc k - 1 - x) / 2)) ≡ 0 → x % 2 ≡ 0
+    by zero e z = e
+    by (suc r) e z =
+        let o : x % 2 ≡ 1 = omega arith in
+        let m : suc (trailingZeros k ((2 ^ suc k - 1 - x) / 2)) ≡ 0 = sym (ap (λ (n : ℕ). under (1 - n) (trailingZeros k ((2 ^ suc k - 1 - x) / 2))) o) ∙ z in
+        absurd (not-suc-le-zero {n = 0} (omega arith))
+
+-- from place s of a word on, the run's bits are set, and stand in the word
+module _ (w s : ℕ) (h : w < 2 ^ 64) where
+  rest-lt : w / 2 ^ s < 2 ^ 64
+  rest-lt = lt-of-le-of-lt (shr-le w s) h
+
+  pub run-in-word : (j : ℕ) → j < trailingZeros 64 (2 ^ 64 - 1 - w / 2 ^ s) → (s + j < 64) × (bitAt w (s + j) ≡ true)
+  run-in-word j l =
+      let o : w / 2 ^ (s + j) % 2 ≡ 1 = ap (λ (n : ℕ). n % 2) (sym (shr-shr w s j)) ∙ run-set 64 (w / 2 ^ s) j rest-lt l in (
+        lt-of-not-le (λ (g : 64 ≤ s + j).
+            let z : w / 2 ^ (s + j) ≡ 0 = div-eq-of-lt (lt-of-lt-of-le h (pow-mono g)) in
+            not-suc-le-zero {n = 0} (omega arith)),
+        one-digit w (s + j) o,
+      )
+
+  pub run-at-clear : trailingZeros 64 (2 ^ 64 - 1 - w / 2 ^ s) ≡ 0 → bitAt w s ≡ false
+  run-at-clear z = fails (bitAt w s) (λ b. let o = digit-one w s b in
+      let e = run-none 63 (w / 2 ^ s) rest-lt z in
+      not-suc-le-zero {n = 0} (omega arith))
