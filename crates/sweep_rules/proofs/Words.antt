@@ -1,7 +1,7 @@
--- Laws of the bits of a word. A word is split at a place k into what stands above it, its bit and what stands below it; the ones and the
--- common bits of two words go bit by bit from the lowest.
+-- Laws of the bits of a word. A word is split at a place k into what stands above it, its bit and what stands below it; the ones, the
+-- common bits of two words and a run of set bits go bit by bit from the lowest.
 use Prim.Native.Nat.{ℕ, zero, suc, _+_, _-_, _*_, _/_, _%_, _^_, _≤_, _<_}
-use mathlib.Core.Path.{_≡_, refl, sym, ap, _∙_, subst}
+use mathlib.Core.Path.{_≡_, refl, sym, ap, ap₂, _∙_, subst}
 use mathlib.Core.Bool.{true, false, cond}
 use mathlib.Core.Logic.{⊎-elim}
 use native.Mathlib.Nat.{not-suc-le-zero, lt-of-le-of-lt, lt-of-lt-of-le, lt-of-not-le, zero-mul, one-mul, mod-eq-of-lt, div-eq-of-lt, zero-add, div-one, add-assoc, mod-lt, pow-suc, add-div-right, add-mul-div-right}
@@ -175,58 +175,46 @@ module _ (P x : ℕ) (h : x < P * 2) where
   over-half : (P * 2 - 1 - x) / 2 ≡ P - 1 - x / 2
   over-half = omega arith
 
+-- the lowest bit, and the run of the rest
+run-step : (k x : ℕ) → x < 2 ^ suc k → trailingZeros (suc k) (2 ^ suc k - 1 - x) ≡ under (1 - x % 2) (trailingZeros k (2 ^ k - 1 - x / 2))
+unfolding trailingZeros
+run-step k x h =
+    let e = pow-suc 2 k in
+    let b : x < 2 ^ k * 2 = subst (λ (n : ℕ). x < n) e h in
+    ap₂ (λ (d q : ℕ). under d (trailingZeros k q)) (ap (λ (n : ℕ). (n - 1 - x) % 2) e ∙ over-digit (2 ^ k) x b) (ap (λ (n : ℕ). (n - 1 - x) / 2) e ∙ over-half (2 ^ k) x b)
+
+run-first : (k x j : ℕ) → x < 2 ^ suc k → j < trailingZeros (suc k) (2 ^ suc k - 1 - x) → (x % 2 ≡ 1) × (j < suc (trailingZeros k (2 ^ k - 1 - x / 2)))
+run-first k x j h l = by (x % 2) _ (omega arith) (subst (λ (n : ℕ). j < n) (run-step k x h) l)
+  where
+    by : (r t : ℕ) → r ≤ 1 → j < under (1 - r) t → (r ≡ 1) × (j < suc t)
+    by zero t h l = absurd (not-suc-le-zero l)
+    by (suc zero) t h l = (refl, l)
+    by (suc (suc r)) t h l = absurd (not-suc-le-zero {n = 0} (omega arith))
+
 -- each bit in the run is set
-pub run-set : (k x j : ℕ) → x < 2 ^ k → j < trailingZeros k (2 ^ k - 1 - x) → x / 2 ^ j % 2 ≡ 1
+run-set : (k x j : ℕ) → x < 2 ^ k → j < trailingZeros k (2 ^ k - 1 - x) → bitAt x j ≡ true
 unfolding trailingZeros
 run-set zero x j h l = absurd (not-suc-le-zero l)
-run-set (suc k) x j h l =
-    let e = pow-suc 2 k in
-    let b : x < 2 ^ k * 2 = subst (λ (n : ℕ). x < n) e h in
-    let d : (2 ^ suc k - 1 - x) % 2 ≡ 1 - x % 2 = ap (λ (n : ℕ). (n - 1 - x) % 2) e ∙ over-digit (2 ^ k) x b in
-    let q : (2 ^ suc k - 1 - x) / 2 ≡ 2 ^ k - 1 - x / 2 = ap (λ (n : ℕ). (n - 1 - x) / 2) e ∙ over-half (2 ^ k) x b in
-    by j (x % 2) refl (subst (λ (n : ℕ). j < under n (trailingZeros k ((2 ^ suc k - 1 - x) / 2))) d l)
-    (λ i m. run-set k (x / 2) i (omega arith) (subst (λ (n : ℕ). i < trailingZeros k n) q m))
-  where
-    by : (j r : ℕ) → x % 2 ≡ r → j < under (1 - x % 2) (trailingZeros k ((2 ^ suc k - 1 - x) / 2))
-        → ((i : ℕ) → i < trailingZeros k ((2 ^ suc k - 1 - x) / 2) → x / 2 / 2 ^ i % 2 ≡ 1) → x / 2 ^ j % 2 ≡ 1
-    by j zero e l ih = absurd (not-suc-le-zero (subst (λ (n : ℕ). j < under (1 - n) (trailingZeros k ((2 ^ suc k - 1 - x) / 2))) e l))
-    by zero (suc r) e l ih = ap (λ (n : ℕ). n % 2) (div-one x) ∙ omega arith
-    by (suc i) (suc r) e l ih =
-        let o : x % 2 ≡ 1 = omega arith in
-        let m : suc i < suc (trailingZeros k ((2 ^ suc k - 1 - x) / 2)) = subst (λ (n : ℕ). suc i < under (1 - n) (trailingZeros k ((2 ^ suc k - 1 - x) / 2))) o l in
-        ap (λ (n : ℕ). n % 2) (sym (shr-shr x 1 i ∙ ap (λ (n : ℕ). x / 2 ^ n) (one-add i))) ∙ ih i (omega arith)
+run-set (suc k) x zero h l = one-digit x 0 (ap (λ (n : ℕ). n % 2) (div-one x) ∙ run-first k x 0 h l .0)
+run-set (suc k) x (suc j) h l = let r = run-first k x (suc j) h l .1 in sym (bit-half x j) ∙ run-set k (x / 2) j (omega (arith, pow-suc 2 k)) (omega arith)
 
--- no run: the lowest bit is clear
-pub run-none : (k x : ℕ) → x < 2 ^ suc k → trailingZeros (suc k) (2 ^ suc k - 1 - x) ≡ 0 → x % 2 ≡ 0
-unfolding trailingZeros
-run-none k x h z =
-    let e = pow-suc 2 k in
-    let b : x < 2 ^ k * 2 = subst (λ (n : ℕ). x < n) e h in
-    let d : (2 ^ suc k - 1 - x) % 2 ≡ 1 - x % 2 = ap (λ (n : ℕ). (n - 1 - x) % 2) e ∙ over-digit (2 ^ k) x b in
-    by (x % 2) refl (sym (ap (λ (n : ℕ). under n (trailingZeros k ((2 ^ suc k - 1 - x) / 2))) d) ∙ z)
-  where
-    by : (r : ℕ) → x % 2 ≡ r → under (1 - x % 2) (trailingZeros k ((2 ^ suc k - 1 - x) / 2)) ≡ 0 → x % 2 ≡ 0
-    by zero e z = e
-    by (suc r) e z =
-        let o : x % 2 ≡ 1 = omega arith in
-        let m : suc (trailingZeros k ((2 ^ suc k - 1 - x) / 2)) ≡ 0 = sym (ap (λ (n : ℕ). under (1 - n) (trailingZeros k ((2 ^ suc k - 1 - x) / 2))) o) ∙ z in
-        absurd (not-suc-le-zero {n = 0} (omega arith))
-
--- from place s of a word on, the run's bits are set, and stand in the word
+-- from place s of a word on: the run's bits are set, and stand in the word; where there is no run, the bit at s is clear
 module _ (w s : ℕ) (h : w < 2 ^ 64) where
   rest-lt : w / 2 ^ s < 2 ^ 64
   rest-lt = lt-of-le-of-lt (shr-le w s) h
 
   pub run-in-word : (j : ℕ) → j < trailingZeros 64 (2 ^ 64 - 1 - w / 2 ^ s) → (s + j < 64) × (bitAt w (s + j) ≡ true)
   run-in-word j l =
-      let o : w / 2 ^ (s + j) % 2 ≡ 1 = ap (λ (n : ℕ). n % 2) (sym (shr-shr w s j)) ∙ run-set 64 (w / 2 ^ s) j rest-lt l in (
+      let b : bitAt w (s + j) ≡ true = same-digit w (w / 2 ^ s) (s + j) j (ap (λ (n : ℕ). n % 2) (sym (shr-shr w s j))) ∙ run-set 64 (w / 2 ^ s) j rest-lt l in
+      let o = digit-one w (s + j) b in (
         lt-of-not-le (λ (g : 64 ≤ s + j).
             let z : w / 2 ^ (s + j) ≡ 0 = div-eq-of-lt (lt-of-lt-of-le h (pow-mono g)) in
             not-suc-le-zero {n = 0} (omega arith)),
-        one-digit w (s + j) o,
+        b,
       )
 
   pub run-at-clear : trailingZeros 64 (2 ^ 64 - 1 - w / 2 ^ s) ≡ 0 → bitAt w s ≡ false
-  run-at-clear z = fails (bitAt w s) (λ b. let o = digit-one w s b in
-      let e = run-none 63 (w / 2 ^ s) rest-lt z in
+  run-at-clear z = fails (bitAt w s) (λ b.
+      let t = trailingZeros 63 (2 ^ 63 - 1 - w / 2 ^ s / 2) in
+      let e : 0 ≡ suc t = sym z ∙ run-step 63 (w / 2 ^ s) rest-lt ∙ ap (λ (n : ℕ). under (1 - n) t) (digit-one w s b) in
       not-suc-le-zero {n = 0} (omega arith))
