@@ -93,11 +93,29 @@ fn half_fine(levels: &[i32; CHANNELS], at: usize, heard: u32) -> bool
     ok
 }
 
+// The same of the 64 levels from `at` on, where no bit is set: all are 0. A test of its own, as it takes a sixth of the time.
+fn all_zero(levels: &[i32; CHANNELS], at: usize) -> bool
+    requires { ⌜ at + wordBits ≤ channels ⌝ }
+    ensures { λ r. ⌜ r ≡ levelsFine (now (levels .entry)) at 0 wordBits ⌝ }
+{
+    let mut ok = true;
+    let mut k = 0;
+    while k < WORD_BITS {
+        let level = levels[at + k];
+        ok = ok & (level == 0);
+        k += 1;
+    }
+    ok
+}
+
 // Whether a word of the maps, with its 64 levels, stands as it may: heard only where visited, and the levels as above.
 fn word_fine(levels: &[i32; CHANNELS], at: usize, visited: u64, heard: u64) -> bool
     requires { ⌜ at + wordBits ≤ channels ⌝ }
     ensures { λ r. ⌜ r ≡ wordFine (now (levels .entry)) at visited heard ⌝ }
 {
+    if heard == 0 {
+        return all_zero(levels, at);
+    }
     let low = (heard % HALF_WORD) as u32;
     let high = (heard / HALF_WORD) as u32;
     ((heard & visited) == heard)
@@ -150,16 +168,19 @@ fn ones(map: [u64; 17]) -> u32
     n
 }
 
-// The lowest channel of the sweep whose bit is clear.
-fn lowest_clear(map: &[u64; 17]) -> NextChannel
-    ensures { λ r. ⌜ toldNext r ≡ gives (lowestNot (isSet (now (map .entry))) sweptChannels firstSwept) ⌝ }
+// The lowest channel of the sweep whose bit is clear. Each turn passes the set bits from c on in one word; the bits above the word, which
+// the shift brings in, are clear.
+fn lowest_clear(map: [u64; 17]) -> NextChannel
+    ensures { λ r. ⌜ toldNext r ≡ gives (lowestNot (isSet map) sweptChannels firstSwept) ⌝ }
 {
     let mut c = FIRST_SWEPT;
     while c <= LAST_SWEPT {
-        if !is_set(map, c) {
+        let w = map[c / WORD_BITS];
+        let run = u64::trailing_zeros(!(w >> (c % WORD_BITS)));
+        if run == 0 {
             return NextChannel::Channel(c as u16);
         }
-        c += 1;
+        c += run as usize;
     }
     NextChannel::Done
 }
@@ -257,7 +278,8 @@ pub fn next(sweep: Sweep) -> SweepNext
             answer: NextChannel::Refused(Refusal::RecordNotWellFormed),
         };
     }
-    let answer = lowest_clear(&sweep.visited);
+    let visited = sweep.visited;
+    let answer = lowest_clear(visited);
     SweepNext { sweep, answer }
 }
 

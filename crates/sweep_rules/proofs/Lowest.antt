@@ -4,7 +4,7 @@ use Prim.Native.Nat.{ℕ, zero, suc, _+_, _-_, _≤_, _<_}
 use mathlib.Core.Path.{_≡_, refl, sym, ap, _∙_}
 use mathlib.Core.Bool.{Bool, true, false, cond}
 use mathlib.Core.Logic.{⊎-elim}
-use native.Mathlib.Nat.{not-suc-le-zero, eq-or-lt-of-le, le-of-eq}
+use native.Mathlib.Nat.{not-suc-le-zero, eq-or-lt-of-le, le-of-eq, add-zero, eq-zero-or-pos}
 use native.Mathlib.Numerals.{add-one}
 use native.Mathlib.Omega.{arith}
 use lib.Dec.{leb}
@@ -32,6 +32,18 @@ module _ (p : ℕ → Bool) (c : ℕ) where
   pub lowest-none : 1087 ≤ c → lowestNot p (1087 - c) c ≡ done
   unfolding lowestNot
   lowest-none h = let e : 1087 - c ≡ 0 = omega arith in ap (λ (n : ℕ). lowestNot p n c) e
+
+-- r steps at once
+pub lowest-run : (p : ℕ → Bool) (c r : ℕ) → ((j : ℕ) → j < r → p (c + j) ≡ true) → lowestNot p (1087 - (c + r)) (c + r) ≡ lowestNot p (1087 - c) c
+lowest-run p c zero h = ap (λ (n : ℕ). lowestNot p (1087 - n) n) (add-zero c)
+lowest-run p c (suc r) h =
+    let e : c + suc r ≡ c + r + 1 = omega arith in
+    ap (λ (n : ℕ). lowestNot p (1087 - n) n) e
+    ∙ ⊎-elim
+    (λ (z : 1087 - (c + r) ≡ 0). lowest-none p (c + r + 1) (omega arith) ∙ sym (lowest-none p (c + r) (omega arith)))
+    (λ (l : 0 < 1087 - (c + r)). lowest-step p (c + r) (omega arith) (h r (omega arith)))
+    (eq-zero-or-pos (1087 - (c + r)))
+    ∙ lowest-run p c r (λ j l. h j (omega arith))
 
 -- ---- it is the lowest
 

@@ -1,6 +1,6 @@
 -- Laws of a map: its bits word by word, their number, and a map with one bit more. A channel's bit stands in one word, so that a change of
 -- that word changes no other channel's.
-use Prim.Native.Nat.{ℕ, zero, suc, _+_, _*_, _/_, _%_, _^_, _<_}
+use Prim.Native.Nat.{ℕ, zero, suc, _+_, _-_, _*_, _/_, _%_, _^_, _<_}
 use mathlib.Core.Path.{_≡_, refl, sym, ap, ap₂, _∙_, subst}
 use mathlib.Core.Bool.{Bool, true, false, _||_, cond}
 use mathlib.Core.List.{List, [], _∷_, map}
@@ -9,7 +9,7 @@ use native.Mathlib.Nat.{zero-add, eq-or-lt-of-le}
 use native.Mathlib.Omega.{arith}
 use lib.ListN.{length, getD, set, length-set, length-map, List·getD-map}
 use lib.Seq.{getD-set-same, getD-set-other}
-use lib.Count.{ones}
+use lib.Count.{ones, trailingZeros}
 use lib.Dec.{lit<, ltb}
 use borrow.Author.Tests.{eq-eqb, ne-eqb, ltb-true, ltb-false}
 use mir.Syntax.{w64}
@@ -21,7 +21,7 @@ use denote.Shadow.{shadow}
 use Rattle.sweep_rules.specs.Map.{channels, bitAt, isSet, withBit, howMany, setBits}
 use Rattle.sweep_rules.specs.Claims.{onesOf, OnesAreChannels, OneBitSet}
 use Rattle.sweep_rules.proofs.Tests.{which, same-or-not, many-split, many-same, many-more}
-use Rattle.sweep_rules.proofs.Words.{ones-bits, set-it, set-below, set-above}
+use Rattle.sweep_rules.proofs.Words.{ones-bits, set-it, set-below, set-above, run-in-word, run-at-clear}
 
 -- ---- the words of an array by value are below 2 ^ 64
 
@@ -47,6 +47,24 @@ set-in-word m i k h =
     let a : (i * 64 + k) / 64 ≡ i = omega arith in
     let b : (i * 64 + k) % 64 ≡ k = omega arith in
     ap (λ (j : ℕ). bitAt (getD m j 0) ((i * 64 + k) % 64)) a ∙ ap (bitAt (getD m i 0)) b
+
+-- the set bits from channel c on, in its word
+module _ (m : List ℕ) (c : ℕ) (h : getD m (c / 64) 0 < 2 ^ 64) where
+  abbrev run : ℕ
+  run = trailingZeros 64 (2 ^ 64 - 1 - getD m (c / 64) 0 / 2 ^ (c % 64))
+
+  pub set-in-run : (j : ℕ) → j < run → isSet m (c + j) ≡ true
+  unfolding isSet
+  set-in-run j l =
+      let r = run-in-word (getD m (c / 64) 0) (c % 64) h j l in
+      let s = r .0 in
+      let a : (c + j) / 64 ≡ c / 64 = omega arith in
+      let b : (c + j) % 64 ≡ c % 64 + j = omega arith in
+      ap (λ (i : ℕ). bitAt (getD m i 0) ((c + j) % 64)) a ∙ ap (bitAt (getD m (c / 64) 0)) b ∙ r .1
+
+  pub clear-at-none : run ≡ 0 → isSet m c ≡ false
+  unfolding isSet
+  clear-at-none z = run-at-clear (getD m (c / 64) 0) (c % 64) h z
 
 -- one word more
 pub many-word : (m : List ℕ) (i : ℕ) → getD m i 0 < 2 ^ 64 → howMany ((i + 1) * 64) (isSet m) ≡ howMany (i * 64) (isSet m) + ones (getD m i 0)

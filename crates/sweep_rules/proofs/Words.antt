@@ -1,21 +1,21 @@
--- Laws of the bits of a word. A word is split at a place k into what stands above it, its bit and what stands below it; the ones and the
--- common bits of two words go bit by bit from the lowest.
+-- Laws of the bits of a word. A word is split at a place k into what stands above it, its bit and what stands below it; the ones, the
+-- common bits of two words and a run of set bits go bit by bit from the lowest.
 use Prim.Native.Nat.{ℕ, zero, suc, _+_, _-_, _*_, _/_, _%_, _^_, _≤_, _<_}
-use mathlib.Core.Path.{_≡_, sym, ap, _∙_, subst}
+use mathlib.Core.Path.{_≡_, refl, sym, ap, ap₂, _∙_, subst}
 use mathlib.Core.Bool.{true, false, cond}
 use mathlib.Core.Logic.{⊎-elim}
-use native.Mathlib.Nat.{zero-mul, one-mul, mod-eq-of-lt, div-eq-of-lt, zero-add, div-one, add-assoc, mod-lt, pow-suc, add-div-right, add-mul-div-right}
+use native.Mathlib.Nat.{not-suc-le-zero, lt-of-le-of-lt, lt-of-lt-of-le, lt-of-not-le, zero-mul, one-mul, mod-eq-of-lt, div-eq-of-lt, zero-add, div-one, add-assoc, mod-lt, pow-suc, add-div-right, add-mul-div-right}
 use native.Mathlib.Numerals.{add-one, one-add}
 use native.Mathlib.Omega.{arith}
-use lib.Count.{ones, ones-step, ones-le}
+use lib.Count.{ones, ones-step, ones-le, trailingZeros, under}
 use lib.Bits.{bitAnd, and-step, and-shr}
-use lib.Pow.{field, mod-mod-pow, shr-shr, shr-lt, mod-pow-add, split, high, pow-pos, pow-add, pow-lt}
+use lib.Pow.{field, mod-mod-pow, shr-shr, shr-lt, shr-le, pow-mono, mod-pow-add, split, high, pow-pos, pow-add, pow-lt}
 use lib.Arith.{digits-lt, lt-one}
 use lib.Dec.{lit<, eqb}
 use borrow.Author.Tests.{eqb-true, eqb-false, eq-eqb}
 use Rattle.sweep_rules.specs.Map.{bitAt, allBelow, howMany}
 use Rattle.sweep_rules.specs.Record.{implies}
-use Rattle.sweep_rules.proofs.Tests.{which, same-test, implied, follows, each-all, all-each}
+use Rattle.sweep_rules.proofs.Tests.{which, fails, same-test, implied, follows, each-all, all-each}
 
 -- the bit as a digit
 
@@ -165,3 +165,56 @@ module _ (w k : ℕ) (clear : bitAt w k ≡ false) where
 -- the shift that makes a power of two, below the width
 pub power-is : (k : ℕ) → k < 64 → (1 * 2 ^ k) % 18446744073709551616 ≡ 2 ^ k
 power-is k h = mod-eq-of-lt (subst (λ (n : ℕ). n < 2 ^ 64) (sym (one-mul (2 ^ k))) (pow-lt h)) ∙ one-mul (2 ^ k)
+
+-- ---- a run of set bits: the zeros at the low end of a word turned over
+
+module _ (P x : ℕ) (h : x < P * 2) where
+  over-digit : (P * 2 - 1 - x) % 2 ≡ 1 - x % 2
+  over-digit = omega arith
+
+  over-half : (P * 2 - 1 - x) / 2 ≡ P - 1 - x / 2
+  over-half = omega arith
+
+-- the lowest bit, and the run of the rest
+run-step : (k x : ℕ) → x < 2 ^ suc k → trailingZeros (suc k) (2 ^ suc k - 1 - x) ≡ under (1 - x % 2) (trailingZeros k (2 ^ k - 1 - x / 2))
+unfolding trailingZeros
+run-step k x h =
+    let e = pow-suc 2 k in
+    let b : x < 2 ^ k * 2 = subst (λ (n : ℕ). x < n) e h in
+    ap₂ (λ (d q : ℕ). under d (trailingZeros k q)) (ap (λ (n : ℕ). (n - 1 - x) % 2) e ∙ over-digit (2 ^ k) x b) (ap (λ (n : ℕ). (n - 1 - x) / 2) e ∙ over-half (2 ^ k) x b)
+
+run-first : (k x j : ℕ) → x < 2 ^ suc k → j < trailingZeros (suc k) (2 ^ suc k - 1 - x) → (x % 2 ≡ 1) × (j < suc (trailingZeros k (2 ^ k - 1 - x / 2)))
+run-first k x j h l = by (x % 2) _ (omega arith) (subst (λ (n : ℕ). j < n) (run-step k x h) l)
+  where
+    by : (r t : ℕ) → r ≤ 1 → j < under (1 - r) t → (r ≡ 1) × (j < suc t)
+    by zero t h l = absurd (not-suc-le-zero l)
+    by (suc zero) t h l = (refl, l)
+    by (suc (suc r)) t h l = absurd (not-suc-le-zero {n = 0} (omega arith))
+
+-- each bit in the run is set
+run-set : (k x j : ℕ) → x < 2 ^ k → j < trailingZeros k (2 ^ k - 1 - x) → bitAt x j ≡ true
+unfolding trailingZeros
+run-set zero x j h l = absurd (not-suc-le-zero l)
+run-set (suc k) x zero h l = one-digit x 0 (ap (λ (n : ℕ). n % 2) (div-one x) ∙ run-first k x 0 h l .0)
+run-set (suc k) x (suc j) h l = let r = run-first k x (suc j) h l .1 in sym (bit-half x j) ∙ run-set k (x / 2) j (omega (arith, pow-suc 2 k)) (omega arith)
+
+-- from place s of a word on: the run's bits are set, and stand in the word; where there is no run, the bit at s is clear
+module _ (w s : ℕ) (h : w < 2 ^ 64) where
+  rest-lt : w / 2 ^ s < 2 ^ 64
+  rest-lt = lt-of-le-of-lt (shr-le w s) h
+
+  pub run-in-word : (j : ℕ) → j < trailingZeros 64 (2 ^ 64 - 1 - w / 2 ^ s) → (s + j < 64) × (bitAt w (s + j) ≡ true)
+  run-in-word j l =
+      let b : bitAt w (s + j) ≡ true = same-digit w (w / 2 ^ s) (s + j) j (ap (λ (n : ℕ). n % 2) (sym (shr-shr w s j))) ∙ run-set 64 (w / 2 ^ s) j rest-lt l in
+      let o = digit-one w (s + j) b in (
+        lt-of-not-le (λ (g : 64 ≤ s + j).
+            let z : w / 2 ^ (s + j) ≡ 0 = div-eq-of-lt (lt-of-lt-of-le h (pow-mono g)) in
+            not-suc-le-zero {n = 0} (omega arith)),
+        b,
+      )
+
+  pub run-at-clear : trailingZeros 64 (2 ^ 64 - 1 - w / 2 ^ s) ≡ 0 → bitAt w s ≡ false
+  run-at-clear z = fails (bitAt w s) (λ b.
+      let t = trailingZeros 63 (2 ^ 63 - 1 - w / 2 ^ s / 2) in
+      let e : 0 ≡ suc t = sym z ∙ run-step 63 (w / 2 ^ s) rest-lt ∙ ap (λ (n : ℕ). under (1 - n) t) (digit-one w s b) in
+      not-suc-le-zero {n = 0} (omega arith))

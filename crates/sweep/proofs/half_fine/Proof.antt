@@ -1,10 +1,8 @@
 -- `half_fine` meets its contract. The loop's invariant: ok says whether the levels passed stand as they may.
-use Prim.Native.Nat.{ℕ, _+_, _-_, _≤_}
+use Prim.Native.Nat.{_+_, _-_, _≤_}
 use mathlib.Core.Path.{_≡_, refl, sym, ap, _∙_}
 use native.Mathlib.Omega.{arith}
-use native.Mathlib.Numerals.{add-one}
 use mathlib.Core.Bool.{Bool, _&&_, _||_, and-assoc}
-use mathlib.Core.List.{List}
 use lib.ListN.{getD}
 use lib.IntN.{ℤ, pos}
 use lib.Dec.{eqb}
@@ -15,7 +13,7 @@ use Rattle.readings.specs.Ranges.{levelInRange}
 use Rattle.sweep_rules.specs.Map.{bitAt, allBelow}
 use Rattle.sweep_rules.specs.Record.{isZero}
 use Rattle.sweep_rules.specs.Code.{levelFine, levelsFine}
-use Rattle.sweep_rules.proofs.Levels.{zero-test}
+use Rattle.sweep_rules.proofs.Levels.{zero-test, levels-step}
 use Rattle.sweep.proofs.half_fine.Statement.{statement}
 use Rattle.sweep.proofs.half_fine.Tie as tie
 
@@ -49,11 +47,6 @@ add-k c = omega arith
 
 loop-less : tie.Need-loop-less Inv-loop μ-loop
 loop-less c = omega arith
-
--- one level more
-levels-step : (levels : List ℤ) (at h k : ℕ) → levelsFine levels at h (k + 1) ≡ (levelsFine levels at h k && levelFine (getD levels (at + k) (pos 0)) (bitAt h k))
-unfolding levelsFine allBelow
-levels-step levels at h k = ap (λ (n : ℕ). allBelow n (λ j. levelFine (getD levels (at + j) (pos 0)) (bitAt h j))) (add-one k)
 
 loop-again : tie.Need-loop-again Inv-loop μ-loop
 unfolding bitAt

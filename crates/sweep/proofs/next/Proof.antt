@@ -20,7 +20,7 @@ lowest-clear-requires c κs = search needs
 returns-2 : tie.Need-returns-2
 unfolding nextTold nextOf
 returns-2 c =
-    let e1 = c .before .before .before in
+    let e1 = c .before .before in
     (refl, c .lowest-clear .ensures ∙ sym (granted _ _ (sym (e1 .before .well-formed .ensures) ∙ not-false (e1 .before .well-formed .result) (e1 .if1 .left))))
 
 pub next-spec : {M : Type 1} → statement M
