@@ -7,11 +7,11 @@ ghost use Prim.Native.Nat.{_≤_};
 ghost use lib.ListN.{take};
 ghost use Rattle.refusal.specs.Told.{refusedFor};
 ghost use Rattle.readings.specs.Ranges.{levelInRange};
-ghost use Rattle.watch_rules.specs.Lists.{distinct};
+ghost use Rattle.watch_rules.specs.Lists.{every, distinct};
 ghost use Rattle.watch_rules.specs.Limits.{room};
 ghost use Rattle.watch_rules.specs.Told.{told, toldHanded};
 ghost use Rattle.watch_rules.specs.Rows.{row};
-ghost use Rattle.watch_rules.specs.Record.{fresh as freshWatch, trackOf, isZero, levelsFine, trackFine, trackUnused, tracksFine, wellFormed, tested};
+ghost use Rattle.watch_rules.specs.Record.{fresh as freshWatch, trackOf, levelsFine, trackFine, trackUnused, tracksFine, wellFormed, tested};
 ghost use Rattle.watch_record.specs.Code.{back, placeOf, channelsOf};
 use readings::LEVEL_HIGHEST;
 use readings::LEVEL_LOWEST;
@@ -64,30 +64,35 @@ pub fn refused(w: Watch, why: Refusal) -> Handed
     answered(w, Answer::Refused(why))
 }
 
-// A level that is used lies in its range; one that is not is 0.
-fn level_ok(level: i32, used: bool) -> bool
-    ensures { λ r. ⌜ r ≡ cond used (levelInRange level) (isZero level) ⌝ }
+// All levels lie in the range. None leaves early, so that the compiled loop takes several at a time.
+fn in_range(levels: [i32; CAPACITY]) -> bool
+    ensures { λ r. ⌜ r ≡ every levelInRange levels ⌝ }
 {
-    if used {
-        return (LEVEL_LOWEST <= level) & (level <= LEVEL_HIGHEST);
+    let mut ok = true;
+    let mut j = 0;
+    while j < CAPACITY {
+        let x = levels[j];
+        ok = ok & ((LEVEL_LOWEST <= x) & (x <= LEVEL_HIGHEST));
+        j += 1;
     }
-    level == 0
+    ok
 }
 
-// A track's levels lie in the range as far as its count, and are 0 beyond it.
+// A track's levels lie in the range as far as its count, and are 0, which lies in it too, beyond it.
 fn levels_ok(t: Track) -> bool
     ensures { λ r. ⌜ r ≡ levelsFine (t .count) (t .levels) ⌝ }
 {
     let n = t.count;
-    let mut j = 0;
+    let levels = t.levels;
+    let mut j = n;
     while j < CAPACITY {
-        let x = t.levels[j];
-        if !level_ok(x, j < n) {
+        let x = levels[j];
+        if x != 0 {
             return false;
         }
         j += 1;
     }
-    n <= CAPACITY
+    (n <= CAPACITY) & in_range(levels)
 }
 
 // A track that is used is fine; one that is not is all zero.

@@ -1,66 +1,67 @@
--- The levels are tested from the first on: at each place the test of all is the test of those from there on, since those before passed.
-use Prim.Native.Nat.{ℕ, _+_, _-_, _≤_, _<_}
-use mathlib.Core.Path.{_≡_, sym, ap, _∙_}
-use mathlib.Core.Bool.{Bool, cond, _&&_}
+-- As far as the levels beyond the count were looked through, they were 0; one that is not settles the whole.
+use Prim.Native.Nat.{_+_, _-_, _≤_, _<_}
+use mathlib.Core.Path.{_≡_, refl, sym, ap, _∙_}
+use mathlib.Core.Bool.{Bool, _&&_, and-false, and-true}
 use native.Mathlib.Omega.{arith}
 use borrow.Author.Needs.{needs}
-use borrow.Author.Tests.{not-true, not-false}
-use lib.Dec.{leb, ltb}
-use lib.IntN.{ℤ, pos}
+use borrow.Author.Tests.{eq-eqb, ne-eqb, leb-true, leb-false}
+use lib.Dec.{leb}
+use lib.IntN.{pos}
 use lib.ListN.{length, drop, getD}
 use mir.Syntax.{w32}
-use mir.Val.{SFits}
-use mir.Facts.{toZ-ofZ}
+use mir.Val.{SFits, ofZ}
 use Rattle.readings.specs.Ranges.{levelInRange}
 use Rattle.watch_rules.specs.Limits.{capacity}
+use Rattle.watch_rules.specs.Lists.{every}
 use Rattle.watch_rules.specs.Record.{isZero, levelsFine}
-use Rattle.watch_record.proofs.Scan.{levels-parted, one-place, at-end}
+use Rattle.watch_rules.proofs.Laws.{byCase}
+use Rattle.watch_record.proofs.Scan.{every-place, every-past, bits-zero, levels-apart, levels-lacking}
 use Rattle.watch_record.proofs.levels_ok.Statement.{statement}
 use Rattle.watch_record.proofs.levels_ok.Tie as tie
 
 abbrev Inv-loop : tie.InvT-loop
-Inv-loop t n j₀ j = (j ≤ capacity) × (levelsFine n (t .levels) ≡ levelsFine (n - j) (drop j (t .levels)))
+Inv-loop n levels j₀ j = (n ≤ j) × (every isZero (drop n levels) ≡ every isZero (drop j levels))
 
 abbrev μ-loop : tie.MeasureT-loop
-μ-loop t n j₀ j = capacity - j
+μ-loop n levels j₀ j = capacity - j
 
--- the place tested, and the test of all by what was found there
-module _ (c : tie.After-level-ok Inv-loop μ-loop) where
+-- the level looked at, and the test of all by what was found there
+module _ (c : tie.After-x Inv-loop μ-loop) where
   abbrev at : tie.At-loop Inv-loop μ-loop
-  at = c .before .before .before
+  at = c .before .before
 
-  by-place : (b : Bool) → c .level-ok .result ≡ b
-      → levelsFine (at .before .args .t1 .count) (at .before .args .t1 .levels)
-      ≡ (b && levelsFine (at .before .args .t1 .count - (at .loop .j + 1)) (drop (at .loop .j + 1) (at .before .args .t1 .levels)))
+  by-place : (b : Bool) → isZero (getD (at .before .before .args .t .levels) (at .loop .j) (pos 0)) ≡ b
+      → every isZero (drop (at .before .before .args .t .count) (at .before .before .args .t .levels))
+      ≡ (b && every isZero (drop (at .loop .j + 1) (at .before .before .args .t .levels)))
   by-place b e =
-      let t = at .before .args .t1 in
+      let l = at .before .before .args .t .levels in
       let j = at .loop .j in
-      let x = getD (t .levels) j (pos 0) in
-      let l : length (t .levels) ≡ capacity = search needs in
-      let inside : j < length (t .levels) = omega (arith, c .before .before .loop-test .taken) in
-      let fits : SFits w32 x = record { sfits = c .before .x .given } in
-      let told = c .level-ok .ensures ∙ ap (λ (y : ℤ). cond (ltb j (t .count)) (levelInRange y) (isZero y)) (toZ-ofZ fits) in
-      at .loop .inv .1
-      ∙ one-place levels-parted (t .count) j (t .levels) (pos 0) inside
-      ∙ ap (λ (y : Bool). y && levelsFine (t .count - (j + 1)) (drop (j + 1) (t .levels))) (sym told ∙ e)
+      let k : length l ≡ capacity = search needs in
+      let inside : j < length l = omega (arith, c .before .loop-test .taken) in
+      at .loop .inv .1 ∙ every-place isZero j l inside ∙ ap (λ (y : Bool). y && every isZero (drop (j + 1) l)) e
+
+  fits : SFits w32 (getD (at .before .before .args .t .levels) (at .loop .j) (pos 0))
+  fits = record { sfits = c .x .given }
 
 loop-holds : tie.Need-loop-holds Inv-loop μ-loop
-loop-holds c =
-    let t = c .args .t1 in
-    let e : t .count ≡ t .count - 0 = omega arith in
-    (omega arith, ap (λ (k : ℕ). levelsFine k (t .levels)) e)
+loop-holds c = (omega arith, refl)
 
 mul-x : tie.Need-mul-x Inv-loop μ-loop
 mul-x c = search needs
 
-element-copy-out-x : tie.Need-element-copy-out-x Inv-loop μ-loop
-element-copy-out-x c = search needs
-
-level-ok-requires : tie.Need-level-ok-requires Inv-loop μ-loop
-level-ok-requires c κs = search needs
+array-copy-out-x : tie.Need-array-copy-out-x Inv-loop μ-loop
+array-copy-out-x c = search needs
 
 returns : tie.Need-returns Inv-loop μ-loop
-returns c = sym (by-place (c .before) _ (not-true _ (c .if1 .taken)))
+returns c =
+    let head = c .before .before .before in
+    let t = head .before .before .args .t in
+    let x = getD (t .levels) (head .loop .j) (pos 0) in
+    let k : length (t .levels) ≡ capacity = search needs in
+    let e = by-place (c .before) _ (sym (bits-zero x (fits (c .before))) ∙ ne-eqb (ofZ w32 x) 0 (c .if1 .taken)) in
+    sym (levels-apart (t .count) (t .levels) (omega (arith, head .loop .inv .0, c .before .before .loop-test .taken))
+    ∙ ap (λ (b : Bool). every levelInRange (t .levels) && b) e
+    ∙ and-false (every levelInRange (t .levels)))
 
 add-j : tie.Need-add-j Inv-loop μ-loop
 add-j c = search needs
@@ -69,15 +70,29 @@ loop-less : tie.Need-loop-less Inv-loop μ-loop
 loop-less c = search needs
 
 loop-again : tie.Need-loop-again Inv-loop μ-loop
-loop-again c = (omega arith, by-place (c .before) _ (not-false _ (c .if1 .left)))
+loop-again c =
+    let head = c .before .before .before in
+    let x = getD (head .before .before .args .t .levels) (head .loop .j) (pos 0) in
+    (omega (arith, head .loop .inv .0), by-place (c .before) _ (sym (bits-zero x (fits (c .before))) ∙ eq-eqb (ofZ w32 x) 0 (c .if1 .left)))
+
+in-range-requires : tie.Need-in-range-requires Inv-loop μ-loop
+in-range-requires c κs = search needs
 
 returns-2 : tie.Need-returns-2 Inv-loop μ-loop
 returns-2 c =
-    let head = c .before in
-    let t = head .before .args .t1 in
+    let head = c .before .before in
+    let t = head .before .before .args .t in
     let l : length (t .levels) ≡ capacity = search needs in
-    let e : head .loop .j ≡ capacity = omega (arith, head .loop .inv .0, c .loop-test .left) in
-    sym (head .loop .inv .1 ∙ at-end levels-parted (t .count) (head .loop .j) (t .levels) (omega arith) ∙ ap (leb (t .count)) e)
+    let z = head .loop .inv .1 ∙ every-past isZero (head .loop .j) (t .levels) (omega (arith, c .before .loop-test .left)) in
+    byCase (leb (t .count) capacity)
+    (λ q.
+    ap (λ (b : Bool). b && c .in-range .result) q
+    ∙ c .in-range .ensures
+    ∙ sym (levels-apart (t .count) (t .levels) (omega (arith, leb-true (t .count) capacity q))
+    ∙ ap (λ (b : Bool). every levelInRange (t .levels) && b) z
+    ∙ and-true (every levelInRange (t .levels))))
+    (λ q.
+    ap (λ (b : Bool). b && c .in-range .result) q ∙ sym (levels-lacking (t .count) (t .levels) (omega (arith, leb-false (t .count) capacity q))))
 
 pub levels-ok-spec : {M : Type 1} → statement M
 levels-ok-spec =
@@ -87,10 +102,10 @@ levels-ok-spec =
     μ-loop
     loop-holds
     mul-x
-    element-copy-out-x
-    level-ok-requires
+    array-copy-out-x
     returns
     add-j
     loop-less
     loop-again
+    in-range-requires
     returns-2)
