@@ -11,7 +11,7 @@ use lib.ListN.{length, drop, take, getD, length-take, drop-of-length-le}
 use lib.Seq.{drop-cons, take-suc, split-at, take-take, getD-take}
 use mir.Syntax.{w32}
 use mir.Val.{SFits, ofZ}
-use borrow.Author.Tests.{eqb-true, ne-eqb, leb-true, leb-false, ltb-true, ltb-false}
+use borrow.Author.Tests.{eqb-true, ne-eqb, le-leb, lt-leb, leb-true, leb-false, ltb-true, ltb-false}
 use Rattle.watch_rules.specs.declared.Track.{Track}
 use Rattle.watch_rules.specs.Lists.{mem, every, distinct}
 use Rattle.readings.specs.Ranges.{levelInRange}
@@ -85,7 +85,7 @@ zero-ranged : (x : ℤ) → isZero x ≡ true → levelInRange x ≡ true
 zero-ranged (pos n) e = ap (λ (k : ℕ). levelInRange (pos k)) (eqb-true n 0 e)
 zero-ranged (negsuc n) e = clash e refl
 
-pub levels-apart : (n : ℕ) (l : List ℤ) → n ≤ length l → levelsFine n l ≡ (every levelInRange l && every isZero (drop n l))
+levels-apart : (n : ℕ) (l : List ℤ) → n ≤ length l → levelsFine n l ≡ (every levelInRange l && every isZero (drop n l))
 levels-apart zero [] h = refl
 levels-apart (suc n) [] h = absurd (omega arith)
 levels-apart zero (x ∷ xs) h = ap (λ (b : Bool). isZero x && b) (levels-apart zero xs (omega arith)) ∙ byCase (isZero x) is-zero is-not
@@ -102,10 +102,54 @@ levels-apart (suc n) (x ∷ xs) h =
     ap (λ (b : Bool). levelInRange x && b) (levels-apart n xs (omega arith))
     ∙ sym (and-assoc (levelInRange x) (every levelInRange xs) (every isZero (drop n xs)))
 
-pub levels-lacking : (n : ℕ) (l : List ℤ) → length l < n → levelsFine n l ≡ false
+levels-lacking : (n : ℕ) (l : List ℤ) → length l < n → levelsFine n l ≡ false
 levels-lacking zero l h = absurd (omega arith)
 levels-lacking (suc n) [] h = refl
 levels-lacking (suc n) (x ∷ xs) h = ap (λ (b : Bool). levelInRange x && b) (levels-lacking n xs (omega arith)) ∙ and-false (levelInRange x)
+
+pub levels-tests : (n : ℕ) (l : List ℤ) → levelsFine n l ≡ ((leb n (length l) && every levelInRange l) && every isZero (drop n l))
+levels-tests n l =
+    byCase (leb n (length l))
+    (λ q. levels-apart n l (leb-true n (length l) q) ∙ sym (ap tests q))
+    (λ q. levels-lacking n l (leb-false n (length l) q) ∙ sym (ap tests q))
+  where
+    tests : Bool → Bool
+    tests b = (b && every levelInRange l) && every isZero (drop n l)
+
+-- whether those are 0 that stand neither before place n nor before place j
+abbrev pub zerosFrom : ℕ → ℕ → List ℤ → Bool
+zerosFrom n j l = every isZero (drop (j + (n - j)) l)
+
+module _ (n j : ℕ) (l : List ℤ) (inside : j < length l) where
+  zeros-before : j < n → zerosFrom n j l ≡ zerosFrom n (j + 1) l
+  zeros-before h = let e : j + (n - j) ≡ (j + 1) + (n - (j + 1)) = omega arith in ap (λ (k : ℕ). every isZero (drop k l)) e
+
+  zeros-after : n ≤ j → zerosFrom n j l ≡ (isZero (getD l j (pos 0)) && zerosFrom n (j + 1) l)
+  zeros-after h =
+      let e : j + (n - j) ≡ j = omega arith in
+      let k : j + 1 ≡ (j + 1) + (n - (j + 1)) = omega arith in
+      ap (λ (i : ℕ). every isZero (drop i l)) e
+      ∙ every-place isZero j l inside
+      ∙ ap (λ (i : ℕ). isZero (getD l j (pos 0)) && every isZero (drop i l)) k
+
+  -- a level that is 0, and one that is not
+  pub zero-there : isZero (getD l j (pos 0)) ≡ true → zerosFrom n j l ≡ zerosFrom n (j + 1) l
+  zero-there e =
+      byCase (ltb j n)
+      (λ q. zeros-before (ltb-true j n q))
+      (λ q. zeros-after (ltb-false j n q) ∙ ap (λ (b : Bool). b && zerosFrom n (j + 1) l) e)
+
+  pub used-there : (u : ℕ) → u ≤ j → isZero (getD l j (pos 0)) ≡ false → (leb u n && zerosFrom n j l) ≡ (leb (j + 1) n && zerosFrom n (j + 1) l)
+  used-there u h e =
+      byCase (ltb j n)
+      (λ q.
+      let b : j < n = ltb-true j n q in
+      ap₂ _&&_ (le-leb u n (omega arith) ∙ sym (le-leb (j + 1) n (omega arith))) (zeros-before b))
+      (λ q.
+      let b : n ≤ j = ltb-false j n q in
+      ap (λ (y : Bool). leb u n && y) (zeros-after b ∙ ap (λ (y : Bool). y && zerosFrom n (j + 1) l) e)
+      ∙ and-false (leb u n)
+      ∙ sym (ap (λ (y : Bool). y && zerosFrom n (j + 1) l) (lt-leb (j + 1) n (omega arith))))
 
 -- ---- channels that differ
 pub channels-rows : (ts : List Track) → channels (map rowOf ts) ≡ channelsOf ts

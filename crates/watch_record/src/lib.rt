@@ -4,14 +4,14 @@ ghost use mathlib.Core.Path.{_≡_};
 ghost use mathlib.Core.Bool.{cond};
 ghost use mathlib.Core.List.{[]};
 ghost use Prim.Native.Nat.{_≤_};
-ghost use lib.ListN.{take};
+ghost use lib.ListN.{take, drop};
 ghost use Rattle.refusal.specs.Told.{refusedFor};
 ghost use Rattle.readings.specs.Ranges.{levelInRange};
 ghost use Rattle.watch_rules.specs.Lists.{every, distinct};
 ghost use Rattle.watch_rules.specs.Limits.{room};
 ghost use Rattle.watch_rules.specs.Told.{told, toldHanded};
 ghost use Rattle.watch_rules.specs.Rows.{row};
-ghost use Rattle.watch_rules.specs.Record.{fresh as freshWatch, trackOf, levelsFine, trackFine, trackUnused, tracksFine, wellFormed, tested};
+ghost use Rattle.watch_rules.specs.Record.{fresh as freshWatch, trackOf, isZero, levelsFine, trackFine, trackUnused, tracksFine, wellFormed, tested};
 ghost use Rattle.watch_record.specs.Code.{back, placeOf, channelsOf};
 use readings::LEVEL_HIGHEST;
 use readings::LEVEL_LOWEST;
@@ -78,21 +78,34 @@ fn in_range(levels: [i32; CAPACITY]) -> bool
     ok
 }
 
+// The levels from the n-th on are 0: the last that is not 0 stands before it.
+fn zero_from(levels: [i32; CAPACITY], n: usize) -> bool
+    ensures { λ r. ⌜ r ≡ every isZero (drop n levels) ⌝ }
+{
+    let mut used = 0;
+    let mut j = 0;
+    while j < CAPACITY {
+        let x = levels[j];
+        if x != 0 {
+            used = j + 1;
+        }
+        j += 1;
+    }
+    used <= n
+}
+
 // A track's levels lie in the range as far as its count, and are 0, which lies in it too, beyond it.
 fn levels_ok(t: Track) -> bool
     ensures { λ r. ⌜ r ≡ levelsFine (t .count) (t .levels) ⌝ }
 {
     let n = t.count;
     let levels = t.levels;
-    let mut j = n;
-    while j < CAPACITY {
-        let x = levels[j];
-        if x != 0 {
-            return false;
-        }
-        j += 1;
+    let ok = (n <= CAPACITY) & in_range(levels);
+    // Most tracks are full.
+    if n == CAPACITY {
+        return ok;
     }
-    (n <= CAPACITY) & in_range(levels)
+    ok & zero_from(levels, n)
 }
 
 // A track that is used is fine; one that is not is all zero.
