@@ -22,49 +22,39 @@ use Rattle.watch_rules.proofs.Laws.{byCase, clash, and-left, and-right, and-bot
 use Rattle.watch_rules.proofs.Reach.{distinct-middle}
 
 -- a list from a place on: what stands there, and the rest
-pub from-place : {A : Type 0} (j : ℕ) (l : List A) (d : A) → j < length l → drop j l ≡ getD l j d ∷ drop (j + 1) l
+from-place : {A : Type 0} (j : ℕ) (l : List A) (d : A) → j < length l → drop j l ≡ getD l j d ∷ drop (j + 1) l
 from-place j l d inside = drop-cons l j d inside ∙ ap (λ (k : ℕ). getD l j d ∷ drop k l) (sym (add-one j))
 
--- ---- a test of the first n of a list by f, and of the others by g: the tracks of a record
+-- ---- the tracks of a record: the first n fine, the others unused
 
-pub record Parted {A : Type 0} (F : ℕ → List A → Bool) (f g : A → Bool) : Type 0 where
-  pub none : F 0 [] ≡ true
-  pub lacking : (n : ℕ) → F (suc n) [] ≡ false
-  pub used : (n : ℕ) (x : A) (xs : List A) → F (suc n) (x ∷ xs) ≡ (f x && F n xs)
-  pub free : (x : A) (xs : List A) → F 0 (x ∷ xs) ≡ (g x && F 0 xs)
+-- one place more
+pub one-place : (n j : ℕ) (l : List Track) → j < length l
+    → tracksFine (n - j) (drop j l)
+    ≡ (cond (ltb j n) (trackFine (getD l j nothing)) (trackUnused (getD l j nothing)) && tracksFine (n - (j + 1)) (drop (j + 1) l))
+one-place n j l inside = byCase (ltb j n) among after
+  where
+    rest : Bool → Bool
+    rest b = cond b (trackFine (getD l j nothing)) (trackUnused (getD l j nothing)) && tracksFine (n - (j + 1)) (drop (j + 1) l)
 
-pub tracks-parted : Parted tracksFine trackFine trackUnused
-tracks-parted = record { none = refl; lacking = λ n. refl; used = λ n t ts. refl; free = λ t ts. refl }
+    among : ltb j n ≡ true → tracksFine (n - j) (drop j l) ≡ rest (ltb j n)
+    among q =
+        let e : n - j ≡ suc (n - (j + 1)) = omega (arith, ltb-true j n q) in
+        ap₂ tracksFine e (from-place j l nothing inside) ∙ ap rest (sym q)
 
-module _ {A : Type 0} {F : ℕ → List A → Bool} {f g : A → Bool} (parted : Parted F f g) where
-  -- one place more: by f among the first n, by g after them
-  pub one-place : (n j : ℕ) (l : List A) (d : A) → j < length l
-      → F (n - j) (drop j l) ≡ (cond (ltb j n) (f (getD l j d)) (g (getD l j d)) && F (n - (j + 1)) (drop (j + 1) l))
-  one-place n j l d inside = byCase (ltb j n) among after
-    where
-      rest : Bool → Bool
-      rest b = cond b (f (getD l j d)) (g (getD l j d)) && F (n - (j + 1)) (drop (j + 1) l)
+    after : ltb j n ≡ false → tracksFine (n - j) (drop j l) ≡ rest (ltb j n)
+    after q =
+        let e : n - j ≡ 0 = omega (arith, ltb-false j n q) in
+        let k : 0 ≡ n - (j + 1) = omega (arith, ltb-false j n q) in
+        ap₂ tracksFine e (from-place j l nothing inside)
+        ∙ ap (λ (m : ℕ). trackUnused (getD l j nothing) && tracksFine m (drop (j + 1) l)) k
+        ∙ ap rest (sym q)
 
-      among : ltb j n ≡ true → F (n - j) (drop j l) ≡ rest (ltb j n)
-      among q =
-          let e : n - j ≡ suc (n - (j + 1)) = omega (arith, ltb-true j n q) in
-          ap₂ F e (from-place j l d inside) ∙ parted .used (n - (j + 1)) (getD l j d) (drop (j + 1) l) ∙ ap rest (sym q)
-
-      after : ltb j n ≡ false → F (n - j) (drop j l) ≡ rest (ltb j n)
-      after q =
-          let e : n - j ≡ 0 = omega (arith, ltb-false j n q) in
-          let k : 0 ≡ n - (j + 1) = omega (arith, ltb-false j n q) in
-          ap₂ F e (from-place j l d inside)
-          ∙ parted .free (getD l j d) (drop (j + 1) l)
-          ∙ ap (λ (m : ℕ). g (getD l j d) && F m (drop (j + 1) l)) k
-          ∙ ap rest (sym q)
-
-  -- past the last of them: were there n?
-  pub at-end : (n j : ℕ) (l : List A) → length l ≤ j → F (n - j) (drop j l) ≡ leb n j
-  at-end n j l h =
-      byCase (leb n j)
-      (λ q. let e : n - j ≡ 0 = omega (arith, leb-true n j q) in ap₂ F e (drop-of-length-le l h) ∙ parted .none ∙ sym q)
-      (λ q. let e : n - j ≡ suc (n - (j + 1)) = omega (arith, leb-false n j q) in ap₂ F e (drop-of-length-le l h) ∙ parted .lacking (n - (j + 1)) ∙ sym q)
+-- past the last of them: were there n?
+pub at-end : (n j : ℕ) (l : List Track) → length l ≤ j → tracksFine (n - j) (drop j l) ≡ leb n j
+at-end n j l h =
+    byCase (leb n j)
+    (λ q. let e : n - j ≡ 0 = omega (arith, leb-true n j q) in ap₂ tracksFine e (drop-of-length-le l h) ∙ sym q)
+    (λ q. let e : n - j ≡ suc (n - (j + 1)) = omega (arith, leb-false n j q) in ap₂ tracksFine e (drop-of-length-le l h) ∙ sym q)
 
 -- ---- the levels of a track: all in the range, since 0 is, and those beyond the count 0
 

@@ -78,7 +78,7 @@ fn in_range(levels: [i32; CAPACITY]) -> bool
     ok
 }
 
-// The levels from the n-th on are 0: the last that is not 0 stands before it.
+// The levels from place n on are 0: the last that is not 0 stands before it.
 fn zero_from(levels: [i32; CAPACITY], n: usize) -> bool
     ensures { λ r. ⌜ r ≡ every isZero (drop n levels) ⌝ }
 {
