@@ -1,7 +1,7 @@
 -- The tests of a record as the code makes them, from place to place: what is left to test from a place on, and one place more.
-use Prim.Native.Nat.{ℕ, suc, _+_, _-_, _≤_, _<_, suc-le-suc}
+use Prim.Native.Nat.{ℕ, zero, suc, _+_, _-_, _≤_, _<_, suc-le-suc}
 use mathlib.Core.Path.{_≡_, refl, sym, ap, ap₂, _∙_}
-use mathlib.Core.Bool.{Bool, true, false, not, cond, _&&_, _||_, or-assoc}
+use mathlib.Core.Bool.{Bool, true, false, not, cond, _&&_, _||_, or-assoc, and-assoc, and-false}
 use mathlib.Core.List.{List, [], _∷_, _++_, map}
 use native.Mathlib.Omega.{arith}
 use native.Mathlib.Numerals.{add-one}
@@ -11,9 +11,9 @@ use lib.ListN.{length, drop, take, getD, length-take, drop-of-length-le}
 use lib.Seq.{drop-cons, take-suc, split-at, take-take, getD-take}
 use mir.Syntax.{w32}
 use mir.Val.{SFits, ofZ}
-use borrow.Author.Tests.{ne-eqb, leb-true, leb-false, ltb-true, ltb-false}
+use borrow.Author.Tests.{eqb-true, ne-eqb, le-leb, lt-leb, leb-true, leb-false, ltb-true, ltb-false}
 use Rattle.watch_rules.specs.declared.Track.{Track}
-use Rattle.watch_rules.specs.Lists.{mem, distinct}
+use Rattle.watch_rules.specs.Lists.{mem, every, distinct}
 use Rattle.readings.specs.Ranges.{levelInRange}
 use Rattle.watch_rules.specs.Rows.{channels}
 use Rattle.watch_rules.specs.Record.{rowOf, isZero, levelsFine, trackFine, trackUnused, tracksFine}
@@ -21,57 +21,125 @@ use Rattle.watch_record.specs.Code.{nothing, placeOf, channelsOf}
 use Rattle.watch_rules.proofs.Laws.{byCase, clash, and-left, and-right, and-both, not-is, eqb-sym, or-true-right, or-false-left, or-false-right}
 use Rattle.watch_rules.proofs.Reach.{distinct-middle}
 
--- ---- a test of the first n of a list by f, and of the others by g: the levels of a track, and the tracks of a record
+-- a list from a place on: what stands there, and the rest
+from-place : {A : Type 0} (j : ℕ) (l : List A) (d : A) → j < length l → drop j l ≡ getD l j d ∷ drop (j + 1) l
+from-place j l d inside = drop-cons l j d inside ∙ ap (λ (k : ℕ). getD l j d ∷ drop k l) (sym (add-one j))
 
-pub record Parted {A : Type 0} (F : ℕ → List A → Bool) (f g : A → Bool) : Type 0 where
-  pub none : F 0 [] ≡ true
-  pub lacking : (n : ℕ) → F (suc n) [] ≡ false
-  pub used : (n : ℕ) (x : A) (xs : List A) → F (suc n) (x ∷ xs) ≡ (f x && F n xs)
-  pub free : (x : A) (xs : List A) → F 0 (x ∷ xs) ≡ (g x && F 0 xs)
+-- ---- the tracks of a record: the first n fine, the others unused
 
-pub levels-parted : Parted levelsFine levelInRange isZero
-levels-parted = record { none = refl; lacking = λ n. refl; used = λ n x xs. refl; free = λ x xs. refl }
+-- one place more
+pub one-place : (n j : ℕ) (l : List Track) → j < length l
+    → tracksFine (n - j) (drop j l)
+    ≡ (cond (ltb j n) (trackFine (getD l j nothing)) (trackUnused (getD l j nothing)) && tracksFine (n - (j + 1)) (drop (j + 1) l))
+one-place n j l inside = byCase (ltb j n) among after
+  where
+    rest : Bool → Bool
+    rest b = cond b (trackFine (getD l j nothing)) (trackUnused (getD l j nothing)) && tracksFine (n - (j + 1)) (drop (j + 1) l)
 
-pub tracks-parted : Parted tracksFine trackFine trackUnused
-tracks-parted = record { none = refl; lacking = λ n. refl; used = λ n t ts. refl; free = λ t ts. refl }
+    among : ltb j n ≡ true → tracksFine (n - j) (drop j l) ≡ rest (ltb j n)
+    among q =
+        let e : n - j ≡ suc (n - (j + 1)) = omega (arith, ltb-true j n q) in
+        ap₂ tracksFine e (from-place j l nothing inside) ∙ ap rest (sym q)
 
-module _ {A : Type 0} {F : ℕ → List A → Bool} {f g : A → Bool} (parted : Parted F f g) where
-  -- one place more: by f among the first n, by g after them
-  pub one-place : (n j : ℕ) (l : List A) (d : A) → j < length l
-      → F (n - j) (drop j l) ≡ (cond (ltb j n) (f (getD l j d)) (g (getD l j d)) && F (n - (j + 1)) (drop (j + 1) l))
-  one-place n j l d inside = byCase (ltb j n) among after
-    where
-      split : drop j l ≡ getD l j d ∷ drop (j + 1) l
-      split = drop-cons l j d inside ∙ ap (λ (k : ℕ). getD l j d ∷ drop k l) (sym (add-one j))
+    after : ltb j n ≡ false → tracksFine (n - j) (drop j l) ≡ rest (ltb j n)
+    after q =
+        let e : n - j ≡ 0 = omega (arith, ltb-false j n q) in
+        let k : 0 ≡ n - (j + 1) = omega (arith, ltb-false j n q) in
+        ap₂ tracksFine e (from-place j l nothing inside)
+        ∙ ap (λ (m : ℕ). trackUnused (getD l j nothing) && tracksFine m (drop (j + 1) l)) k
+        ∙ ap rest (sym q)
 
-      rest : Bool → Bool
-      rest b = cond b (f (getD l j d)) (g (getD l j d)) && F (n - (j + 1)) (drop (j + 1) l)
+-- past the last of them: were there n?
+pub at-end : (n j : ℕ) (l : List Track) → length l ≤ j → tracksFine (n - j) (drop j l) ≡ leb n j
+at-end n j l h =
+    byCase (leb n j)
+    (λ q. let e : n - j ≡ 0 = omega (arith, leb-true n j q) in ap₂ tracksFine e (drop-of-length-le l h) ∙ sym q)
+    (λ q. let e : n - j ≡ suc (n - (j + 1)) = omega (arith, leb-false n j q) in ap₂ tracksFine e (drop-of-length-le l h) ∙ sym q)
 
-      among : ltb j n ≡ true → F (n - j) (drop j l) ≡ rest (ltb j n)
-      among q =
-          let e : n - j ≡ suc (n - (j + 1)) = omega (arith, ltb-true j n q) in
-          ap₂ F e split ∙ parted .used (n - (j + 1)) (getD l j d) (drop (j + 1) l) ∙ ap rest (sym q)
+-- ---- the levels of a track: all in the range, since 0 is, and those beyond the count 0
 
-      after : ltb j n ≡ false → F (n - j) (drop j l) ≡ rest (ltb j n)
-      after q =
-          let e : n - j ≡ 0 = omega (arith, ltb-false j n q) in
-          let k : 0 ≡ n - (j + 1) = omega (arith, ltb-false j n q) in
-          ap₂ F e split
-          ∙ parted .free (getD l j d) (drop (j + 1) l)
-          ∙ ap (λ (m : ℕ). g (getD l j d) && F m (drop (j + 1) l)) k
-          ∙ ap rest (sym q)
+-- one level more
+pub every-place : (f : ℤ → Bool) (j : ℕ) (l : List ℤ) → j < length l → every f (drop j l) ≡ (f (getD l j (pos 0)) && every f (drop (j + 1) l))
+every-place f j l inside = ap (every f) (from-place j l (pos 0) inside)
 
-  -- past the last of them: were there n?
-  pub at-end : (n j : ℕ) (l : List A) → length l ≤ j → F (n - j) (drop j l) ≡ leb n j
-  at-end n j l h =
-      byCase (leb n j)
-      (λ q. let e : n - j ≡ 0 = omega (arith, leb-true n j q) in ap₂ F e (drop-of-length-le l h) ∙ parted .none ∙ sym q)
-      (λ q. let e : n - j ≡ suc (n - (j + 1)) = omega (arith, leb-false n j q) in ap₂ F e (drop-of-length-le l h) ∙ parted .lacking (n - (j + 1)) ∙ sym q)
+-- past the last of them
+pub every-past : (f : ℤ → Bool) (j : ℕ) (l : List ℤ) → length l ≤ j → every f (drop j l) ≡ true
+every-past f j l h = ap (every f) (drop-of-length-le l h)
 
 -- the code asks of a level whether its bits are 0
 pub bits-zero : (x : ℤ) → SFits w32 x → eqb (ofZ w32 x) 0 ≡ isZero x
 bits-zero (pos n) f = refl
 bits-zero (negsuc n) f = let h : ofZ w32 (negsuc n) ≡ 0 → ⊥ = λ e. omega (arith, f .sfits) in ne-eqb (ofZ w32 (negsuc n)) 0 h
+
+zero-ranged : (x : ℤ) → isZero x ≡ true → levelInRange x ≡ true
+zero-ranged (pos n) e = ap (λ (k : ℕ). levelInRange (pos k)) (eqb-true n 0 e)
+zero-ranged (negsuc n) e = clash e refl
+
+levels-apart : (n : ℕ) (l : List ℤ) → n ≤ length l → levelsFine n l ≡ (every levelInRange l && every isZero (drop n l))
+levels-apart zero [] h = refl
+levels-apart (suc n) [] h = absurd (omega arith)
+levels-apart zero (x ∷ xs) h = ap (λ (b : Bool). isZero x && b) (levels-apart zero xs (omega arith)) ∙ byCase (isZero x) is-zero is-not
+  where
+    rest : Bool
+    rest = every levelInRange xs && every isZero (drop 0 xs)
+
+    is-zero : isZero x ≡ true → (isZero x && rest) ≡ ((levelInRange x && every levelInRange xs) && (isZero x && every isZero xs))
+    is-zero e = rw (e, zero-ranged x e) refl
+
+    is-not : isZero x ≡ false → (isZero x && rest) ≡ ((levelInRange x && every levelInRange xs) && (isZero x && every isZero xs))
+    is-not e = rw e (sym (and-false (levelInRange x && every levelInRange xs)))
+levels-apart (suc n) (x ∷ xs) h =
+    ap (λ (b : Bool). levelInRange x && b) (levels-apart n xs (omega arith))
+    ∙ sym (and-assoc (levelInRange x) (every levelInRange xs) (every isZero (drop n xs)))
+
+levels-lacking : (n : ℕ) (l : List ℤ) → length l < n → levelsFine n l ≡ false
+levels-lacking zero l h = absurd (omega arith)
+levels-lacking (suc n) [] h = refl
+levels-lacking (suc n) (x ∷ xs) h = ap (λ (b : Bool). levelInRange x && b) (levels-lacking n xs (omega arith)) ∙ and-false (levelInRange x)
+
+pub levels-tests : (n : ℕ) (l : List ℤ) → levelsFine n l ≡ ((leb n (length l) && every levelInRange l) && every isZero (drop n l))
+levels-tests n l =
+    byCase (leb n (length l))
+    (λ q. levels-apart n l (leb-true n (length l) q) ∙ sym (ap tests q))
+    (λ q. levels-lacking n l (leb-false n (length l) q) ∙ sym (ap tests q))
+  where
+    tests : Bool → Bool
+    tests b = (b && every levelInRange l) && every isZero (drop n l)
+
+-- whether those are 0 that stand neither before place n nor before place j
+abbrev pub zerosFrom : ℕ → ℕ → List ℤ → Bool
+zerosFrom n j l = every isZero (drop (j + (n - j)) l)
+
+module _ (n j : ℕ) (l : List ℤ) (inside : j < length l) where
+  zeros-before : j < n → zerosFrom n j l ≡ zerosFrom n (j + 1) l
+  zeros-before h = let e : j + (n - j) ≡ (j + 1) + (n - (j + 1)) = omega arith in ap (λ (k : ℕ). every isZero (drop k l)) e
+
+  zeros-after : n ≤ j → zerosFrom n j l ≡ (isZero (getD l j (pos 0)) && zerosFrom n (j + 1) l)
+  zeros-after h =
+      let e : j + (n - j) ≡ j = omega arith in
+      let k : j + 1 ≡ (j + 1) + (n - (j + 1)) = omega arith in
+      ap (λ (i : ℕ). every isZero (drop i l)) e
+      ∙ every-place isZero j l inside
+      ∙ ap (λ (i : ℕ). isZero (getD l j (pos 0)) && every isZero (drop i l)) k
+
+  -- a level that is 0, and one that is not
+  pub zero-there : isZero (getD l j (pos 0)) ≡ true → zerosFrom n j l ≡ zerosFrom n (j + 1) l
+  zero-there e =
+      byCase (ltb j n)
+      (λ q. zeros-before (ltb-true j n q))
+      (λ q. zeros-after (ltb-false j n q) ∙ ap (λ (b : Bool). b && zerosFrom n (j + 1) l) e)
+
+  pub used-there : (u : ℕ) → u ≤ j → isZero (getD l j (pos 0)) ≡ false → (leb u n && zerosFrom n j l) ≡ (leb (j + 1) n && zerosFrom n (j + 1) l)
+  used-there u h e =
+      byCase (ltb j n)
+      (λ q.
+      let b : j < n = ltb-true j n q in
+      ap₂ _&&_ (le-leb u n (omega arith) ∙ sym (le-leb (j + 1) n (omega arith))) (zeros-before b))
+      (λ q.
+      let b : n ≤ j = ltb-false j n q in
+      ap (λ (y : Bool). leb u n && y) (zeros-after b ∙ ap (λ (y : Bool). y && zerosFrom n (j + 1) l) e)
+      ∙ and-false (leb u n)
+      ∙ sym (ap (λ (y : Bool). y && zerosFrom n (j + 1) l) (lt-leb (j + 1) n (omega arith))))
 
 -- ---- channels that differ
 pub channels-rows : (ts : List Track) → channels (map rowOf ts) ≡ channelsOf ts

@@ -4,10 +4,10 @@ ghost use mathlib.Core.Path.{_≡_};
 ghost use mathlib.Core.Bool.{cond};
 ghost use mathlib.Core.List.{[]};
 ghost use Prim.Native.Nat.{_≤_};
-ghost use lib.ListN.{take};
+ghost use lib.ListN.{take, drop};
 ghost use Rattle.refusal.specs.Told.{refusedFor};
 ghost use Rattle.readings.specs.Ranges.{levelInRange};
-ghost use Rattle.watch_rules.specs.Lists.{distinct};
+ghost use Rattle.watch_rules.specs.Lists.{every, distinct};
 ghost use Rattle.watch_rules.specs.Limits.{room};
 ghost use Rattle.watch_rules.specs.Told.{told, toldHanded};
 ghost use Rattle.watch_rules.specs.Rows.{row};
@@ -64,30 +64,48 @@ pub fn refused(w: Watch, why: Refusal) -> Handed
     answered(w, Answer::Refused(why))
 }
 
-// A level that is used lies in its range; one that is not is 0.
-fn level_ok(level: i32, used: bool) -> bool
-    ensures { λ r. ⌜ r ≡ cond used (levelInRange level) (isZero level) ⌝ }
+// All levels lie in the range. None leaves early, so that the compiled loop takes several at a time.
+fn in_range(levels: [i32; CAPACITY]) -> bool
+    ensures { λ r. ⌜ r ≡ every levelInRange levels ⌝ }
 {
-    if used {
-        return (LEVEL_LOWEST <= level) & (level <= LEVEL_HIGHEST);
+    let mut ok = true;
+    let mut j = 0;
+    while j < CAPACITY {
+        let x = levels[j];
+        ok = ok & ((LEVEL_LOWEST <= x) & (x <= LEVEL_HIGHEST));
+        j += 1;
     }
-    level == 0
+    ok
 }
 
-// A track's levels lie in the range as far as its count, and are 0 beyond it.
+// The levels from place n on are 0: the last that is not 0 stands before it.
+fn zero_from(levels: [i32; CAPACITY], n: usize) -> bool
+    ensures { λ r. ⌜ r ≡ every isZero (drop n levels) ⌝ }
+{
+    let mut used = 0;
+    let mut j = 0;
+    while j < CAPACITY {
+        let x = levels[j];
+        if x != 0 {
+            used = j + 1;
+        }
+        j += 1;
+    }
+    used <= n
+}
+
+// A track's levels lie in the range as far as its count, and are 0, which lies in it too, beyond it.
 fn levels_ok(t: Track) -> bool
     ensures { λ r. ⌜ r ≡ levelsFine (t .count) (t .levels) ⌝ }
 {
     let n = t.count;
-    let mut j = 0;
-    while j < CAPACITY {
-        let x = t.levels[j];
-        if !level_ok(x, j < n) {
-            return false;
-        }
-        j += 1;
+    let levels = t.levels;
+    let ok = (n <= CAPACITY) & in_range(levels);
+    // Most tracks are full.
+    if n == CAPACITY {
+        return ok;
     }
-    n <= CAPACITY
+    ok & zero_from(levels, n)
 }
 
 // A track that is used is fine; one that is not is all zero.

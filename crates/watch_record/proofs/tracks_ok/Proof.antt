@@ -9,8 +9,7 @@ use lib.Dec.{leb}
 use lib.ListN.{length, drop}
 use Rattle.watch_rules.specs.Limits.{room}
 use Rattle.watch_rules.specs.Record.{tracksFine}
-use Rattle.watch_record.specs.Code.{nothing}
-use Rattle.watch_record.proofs.Scan.{tracks-parted, one-place, at-end}
+use Rattle.watch_record.proofs.Scan.{one-place, at-end}
 use Rattle.watch_record.proofs.tracks_ok.Statement.{statement}
 use Rattle.watch_record.proofs.tracks_ok.Tie as tie
 
@@ -34,7 +33,7 @@ module _ (c : tie.After-track-ok Inv-loop μ-loop) where
       let l : length (a .t1) ≡ room = search needs in
       let inside : i < length (a .t1) = omega (arith, c .before .before .loop-test .taken) in
       at .loop .inv .1
-      ∙ one-place tracks-parted (a .n) i (a .t1) nothing inside
+      ∙ one-place (a .n) i (a .t1) inside
       ∙ ap (λ (y : Bool). y && tracksFine (a .n - (i + 1)) (drop (i + 1) (a .t1))) (sym (c .track-ok .ensures) ∙ e)
 
 loop-holds : tie.Need-loop-holds Inv-loop μ-loop
@@ -70,7 +69,7 @@ returns-2 c =
     let a = head .before .args in
     let l : length (a .t1) ≡ room = search needs in
     let e : head .loop .i ≡ room = omega (arith, head .loop .inv .0, c .loop-test .left) in
-    sym (head .loop .inv .1 ∙ at-end tracks-parted (a .n) (head .loop .i) (a .t1) (omega arith) ∙ ap (leb (a .n)) e)
+    sym (head .loop .inv .1 ∙ at-end (a .n) (head .loop .i) (a .t1) (omega arith) ∙ ap (leb (a .n)) e)
 
 pub tracks-ok-spec : {M : Type 1} → statement M
 tracks-ok-spec =
