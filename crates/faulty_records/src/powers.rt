@@ -45,9 +45,10 @@ fn say_step(r: PowerRecord) {
     let s = power::step(parameters(), r, Decoded::Codes { pan: 20, par: 20 }, 850);
     let q = s.power;
     let a = s.answer;
+    let unchanged = same(r, q);
     match a {
-        Answer::Send { par: _, pan: _ } => say::answered(b" | step ", b"sends", same(r, q)),
-        Answer::Refused(why) => say::refused(b" | step ", why, same(r, q)),
+        Answer::Send { par: _, pan: _ } => say::answered(b" | step ", b"sends", unchanged),
+        Answer::Refused(why) => say::refused(b" | step ", why, unchanged),
     }
 }
 

@@ -77,10 +77,11 @@ fn say_next(s: Sweep) {
     let o = sweep::next(s);
     let t = o.sweep;
     let a = o.answer;
+    let unchanged = same(s, t);
     match a {
-        NextChannel::Channel(_) => say::answered(b" | next ", b"a channel", same(s, t)),
-        NextChannel::Done => say::answered(b" | next ", b"done", same(s, t)),
-        NextChannel::Refused(why) => say::refused(b" | next ", why, same(s, t)),
+        NextChannel::Channel(_) => say::answered(b" | next ", b"a channel", unchanged),
+        NextChannel::Done => say::answered(b" | next ", b"done", unchanged),
+        NextChannel::Refused(why) => say::refused(b" | next ", why, unchanged),
     }
 }
 
@@ -88,12 +89,13 @@ fn say_counts(s: Sweep) {
     let o = sweep::counts(s);
     let t = o.sweep;
     let a = o.answer;
+    let unchanged = same(s, t);
     match a {
         Numbers::Of {
             visited: _,
             heard: _,
-        } => say::answered(b" | counts ", b"numbers", same(s, t)),
-        Numbers::Refused(why) => say::refused(b" | counts ", why, same(s, t)),
+        } => say::answered(b" | counts ", b"numbers", unchanged),
+        Numbers::Refused(why) => say::refused(b" | counts ", why, unchanged),
     }
 }
 
@@ -101,17 +103,18 @@ fn say_counts(s: Sweep) {
 pub fn say_choice(s: Sweep, o: SweepChoice) {
     let t = o.sweep;
     let a = o.answer;
+    let unchanged = same(s, t);
     match a {
         Choice::Camp {
             channel: _,
             tried: _,
-        } => say::answered(b" | choose ", b"camp", same(s, t)),
+        } => say::answered(b" | choose ", b"camp", unchanged),
         Choice::Read {
             channel: _,
             tried: _,
-        } => say::answered(b" | choose ", b"read", same(s, t)),
-        Choice::NoBeam { tried: _ } => say::answered(b" | choose ", b"no beam", same(s, t)),
-        Choice::Refused(why) => say::refused(b" | choose ", why, same(s, t)),
+        } => say::answered(b" | choose ", b"read", unchanged),
+        Choice::NoBeam { tried: _ } => say::answered(b" | choose ", b"no beam", unchanged),
+        Choice::Refused(why) => say::refused(b" | choose ", why, unchanged),
     }
 }
 

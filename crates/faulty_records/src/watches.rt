@@ -54,13 +54,14 @@ fn same(a: Watch, b: Watch) -> bool {
 fn say_call(call: &[u8], w: Watch, h: Handed) {
     let v = h.watch;
     let a = h.answer;
+    let unchanged = same(w, v);
     match a {
-        Answer::Accepted => say::answered(call, b"accepted", same(w, v)),
-        Answer::Refused(why) => say::refused(call, why, same(w, v)),
-        Answer::Levels { count: _, mean: _ } => say::answered(call, b"levels", same(w, v)),
-        Answer::Wait => say::answered(call, b"wait", same(w, v)),
-        Answer::Stay => say::answered(call, b"stay", same(w, v)),
-        Answer::MoveTo(_) => say::answered(call, b"move", same(w, v)),
+        Answer::Accepted => say::answered(call, b"accepted", unchanged),
+        Answer::Refused(why) => say::refused(call, why, unchanged),
+        Answer::Levels { count: _, mean: _ } => say::answered(call, b"levels", unchanged),
+        Answer::Wait => say::answered(call, b"wait", unchanged),
+        Answer::Stay => say::answered(call, b"stay", unchanged),
+        Answer::MoveTo(_) => say::answered(call, b"move", unchanged),
     }
 }
 
