@@ -1,5 +1,5 @@
 -- What the private functions of the choice return: the search order by one number for each channel, its key. No reader of the public contract
--- needs this file; `proofs/Keys.antt` shows that the keys give the search order of `Order.antt`.
+-- needs this file; `proofs/KeyOrder.antt` shows that the keys give the search order of `Order.antt`.
 use Prim.Native.Nat.{ℕ, suc, _+_, _*_, _/_, _%_, _<_, _≤_, min}
 use mathlib.Core.Path.{_≡_}
 use mathlib.Core.Bool.{cond}

@@ -1,5 +1,6 @@
 -- Document 01, section Readings. Start with `Ranges`, `Rounding` and `Hundredths`; `Claims` says what is claimed beyond the contracts.
 pub mod Ranges
+pub mod Channels
 pub mod Rounding
 pub mod Hundredths
 pub mod Float

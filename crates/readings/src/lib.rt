@@ -67,6 +67,9 @@ pub const QUALITY_LOWEST: i32 = QUALITY_LOW * 100;
 
 pub const QUALITY_HIGHEST: i32 = QUALITY_HIGH * 100;
 
+// Channel numbers, under which readings are filed, run from 0 to this.
+pub const CHANNEL_HIGHEST: u16 = 1087;
+
 // An f32's bits: the sign's weight, and the weight of the digit that leads the others.
 const SIGN: u32 = 0x8000_0000;
 

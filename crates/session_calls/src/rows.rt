@@ -25,12 +25,12 @@ use crate::words::says;
 use crate::words::two;
 use power::Decoded;
 use power::PowerParameters;
+use readings::CHANNEL_HIGHEST;
 use session_numbers::ByteWord;
 use session_numbers::ChannelWord;
 use session_numbers::IntWord;
 use session_numbers::NumWord;
 use session_words::Words;
-use watch_rules::CHANNEL_HIGHEST;
 
 pub fn reading_call(line: &[u8], words: Words, otherwise: Call) -> Call
     ensures { λ r. ⌜ toldCall r [] ≡ firstOf (readingRows (words .count) (marked (now (line .entry)) words)) (toldCall otherwise []) ⌝ }

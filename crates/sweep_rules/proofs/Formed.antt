@@ -12,8 +12,9 @@ use lib.IntN.{pos}
 use lib.Dec.{eqb, leb}
 use borrow.Author.Tests.{eqb-true, eq-eqb, leb-true, leb-false}
 use Rattle.readings.specs.Ranges.{levelInRange}
+use Rattle.readings.specs.Channels.{channelHighest}
 use Rattle.sweep_rules.specs.Map.{channels, bitAt, isSet, allBelow}
-use Rattle.sweep_rules.specs.Record.{swept, visited, heard, levelAt, implies, isZero, heardWhereVisited, noBitOutside, zeroWhereNotHeard, levelsInRange, wellFormed}
+use Rattle.sweep_rules.specs.Record.{firstSwept, lastSwept, swept, visited, heard, levelAt, implies, isZero, heardWhereVisited, noBitOutside, zeroWhereNotHeard, levelsInRange, wellFormed}
 use Rattle.sweep_rules.specs.Claims.{WellFormed, WellFormedRule}
 use Rattle.sweep_rules.specs.Code.{levelFine, levelsFine, wordFine, endsClear}
 use Rattle.sweep_rules.specs.declared.Sweep.{Sweep}
@@ -87,16 +88,16 @@ wellFormedRule s = (all-four s, formed s)
 
 -- ---- the channels outside 2 to 1,086
 
-outside-swept : (c : ℕ) → c < 1088 → (swept c ≡ true) ⊎ ((c ≡ 0) ⊎ ((c ≡ 1) ⊎ (c ≡ 1087)))
+outside-swept : (c : ℕ) → c < channels → (swept c ≡ true) ⊎ ((c ≡ 0) ⊎ ((c ≡ 1) ⊎ (c ≡ channelHighest)))
 outside-swept c l = ⊎-elim
-    (λ (a : leb 2 c ≡ true). ⊎-elim
-    (λ (b : leb c 1086 ≡ true). inl (both a b))
-    (λ (b : leb c 1086 ≡ false). let g = leb-false c 1086 b in inr (inr (inr (omega arith))))
-    (which (leb c 1086)))
-    (λ (a : leb 2 c ≡ false).
-    let g = leb-false 2 c a in
+    (λ (a : leb firstSwept c ≡ true). ⊎-elim
+    (λ (b : leb c lastSwept ≡ true). inl (both a b))
+    (λ (b : leb c lastSwept ≡ false). let g = leb-false c lastSwept b in inr (inr (inr (omega arith))))
+    (which (leb c lastSwept)))
+    (λ (a : leb firstSwept c ≡ false).
+    let g = leb-false firstSwept c a in
     ⊎-elim (λ (e : c ≡ 0). inr (inl e)) (λ (n : c ≡ 0 → ⊥). inr (inr (inl (omega arith)))) (same-or-not c 0))
-    (which (leb 2 c))
+    (which (leb firstSwept c))
 
 fourth : (n : ℕ) → n % 2 ≡ 0 → n / 2 % 2 ≡ 0 → n % 4 ≡ 0
 fourth n a b = omega arith
@@ -113,16 +114,16 @@ ends-test m =
     let b = eqb-true (high / 9223372036854775808 % 2) 0 (right (eqb (low % 4) 0) (eqb (high / 9223372036854775808 % 2) 0) e) in
     each-all channels (λ c. implies (isSet m c) (swept c)) (λ c l. implied (isSet m c) (swept c) (λ t. ⊎-elim
     (λ (o : swept c ≡ true). o)
-    (λ (o : (c ≡ 0) ⊎ ((c ≡ 1) ⊎ (c ≡ 1087))). absurd (not-suc-le-zero {n = 0} (outer c t a b o)))
+    (λ (o : (c ≡ 0) ⊎ ((c ≡ 1) ⊎ (c ≡ channelHighest))). absurd (not-suc-le-zero {n = 0} (outer c t a b o)))
     (outside-swept c l))))
     (λ e.
     let unset : (c : ℕ) → c < channels → swept c ≡ false → isSet m c ≡ false = λ c l o. fails (isSet m c) (λ t. clash (follows (isSet m c) (swept c) (all-each channels (λ c. implies (isSet m c) (swept c)) e c l) t) o) in
     let a = sym (ap (λ (n : ℕ). n % 2) (div-one low)) ∙ digit-zero low 0 (unset 0 (omega arith) refl) in
     let b = digit-zero low 1 (unset 1 (omega arith) refl) in
-    let d = digit-zero high 63 (unset 1087 (omega arith) refl) in
+    let d = digit-zero high 63 (unset channelHighest (omega arith) refl) in
     both (eq-eqb (low % 4) 0 (fourth low a b)) (eq-eqb (high / 9223372036854775808 % 2) 0 (omega arith)))
   where
-    outer : (c : ℕ) → isSet m c ≡ true → getD m 0 0 % 4 ≡ 0 → getD m 16 0 / 9223372036854775808 % 2 ≡ 0 → (c ≡ 0) ⊎ ((c ≡ 1) ⊎ (c ≡ 1087)) → 1 ≤ 0
+    outer : (c : ℕ) → isSet m c ≡ true → getD m 0 0 % 4 ≡ 0 → getD m 16 0 / 9223372036854775808 % 2 ≡ 0 → (c ≡ 0) ⊎ ((c ≡ 1) ⊎ (c ≡ channelHighest)) → 1 ≤ 0
     outer c t a b (inl e) = let d = digit-one (getD m 0 0) 0 (sym (ap (isSet m) e) ∙ t) in omega arith
     outer c t a b (inr (inl e)) = let d = digit-one (getD m 0 0) 1 (sym (ap (isSet m) e) ∙ t) in omega arith
     outer c t a b (inr (inr e)) = let d = digit-one (getD m 16 0) 63 (sym (ap (isSet m) e) ∙ t) in omega arith
@@ -183,4 +184,4 @@ module _ (s : Sweep) where
   not-heard w c l v = fails (heard s c) (λ h. clash (all-four s w .heardVisited c l h) v)
 
 pub swept-channel : (c : ℕ) → swept c ≡ true → c < channels
-swept-channel c e = let h = leb-true c 1086 (right (leb 2 c) (leb c 1086) e) in omega arith
+swept-channel c e = let h = leb-true c lastSwept (right (leb firstSwept c) (leb c lastSwept) e) in omega arith

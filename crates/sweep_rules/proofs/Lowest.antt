@@ -10,39 +10,43 @@ use native.Mathlib.Omega.{arith}
 use lib.Dec.{leb}
 use borrow.Author.Tests.{leb-true, le-leb}
 use Rattle.sweep_rules.specs.Map.{channels, howMany, setBits}
-use Rattle.sweep_rules.specs.Record.{swept, visited, implies, finished, wellFormed}
+use Rattle.sweep_rules.specs.Record.{firstSwept, lastSwept, sweptChannels, swept, visited, implies, finished, wellFormed}
 use Rattle.sweep_rules.specs.Next.{channel, done, lowestNot, nextOf}
 use Rattle.sweep_rules.specs.Claims.{NextLowest}
 use Rattle.sweep_rules.specs.declared.Sweep.{Sweep}
 use Rattle.sweep_rules.proofs.Tests.{implied, follows, which, both, left, right, same-test, each-all, all-each, many-same, many-all}
 use Rattle.sweep_rules.proofs.Formed.{swept-channel, wellFormedRule}
 
+-- the first channel after those that the sweep visits
+abbrev pub sweptEnd : ℕ
+sweptEnd = firstSwept + sweptChannels
+
 module _ (p : ℕ → Bool) (c : ℕ) where
-  left-over : c < 1087 → 1087 - c ≡ suc (1087 - (c + 1))
+  left-over : c < sweptEnd → sweptEnd - c ≡ suc (sweptEnd - (c + 1))
   left-over h = omega arith
 
-  pub lowest-here : c < 1087 → p c ≡ false → lowestNot p (1087 - c) c ≡ channel c
+  pub lowest-here : c < sweptEnd → p c ≡ false → lowestNot p (sweptEnd - c) c ≡ channel c
   unfolding lowestNot
   lowest-here h e = ap (λ (n : ℕ). lowestNot p n c) (left-over h) ∙ rw e
 
-  pub lowest-step : c < 1087 → p c ≡ true → lowestNot p (1087 - (c + 1)) (c + 1) ≡ lowestNot p (1087 - c) c
+  pub lowest-step : c < sweptEnd → p c ≡ true → lowestNot p (sweptEnd - (c + 1)) (c + 1) ≡ lowestNot p (sweptEnd - c) c
   unfolding lowestNot
-  lowest-step h e = ap (lowestNot p (1087 - (c + 1))) (add-one c) ∙ sym (ap (λ (n : ℕ). lowestNot p n c) (left-over h) ∙ rw e)
+  lowest-step h e = ap (lowestNot p (sweptEnd - (c + 1))) (add-one c) ∙ sym (ap (λ (n : ℕ). lowestNot p n c) (left-over h) ∙ rw e)
 
-  pub lowest-none : 1087 ≤ c → lowestNot p (1087 - c) c ≡ done
+  pub lowest-none : sweptEnd ≤ c → lowestNot p (sweptEnd - c) c ≡ done
   unfolding lowestNot
-  lowest-none h = let e : 1087 - c ≡ 0 = omega arith in ap (λ (n : ℕ). lowestNot p n c) e
+  lowest-none h = let e : sweptEnd - c ≡ 0 = omega arith in ap (λ (n : ℕ). lowestNot p n c) e
 
 -- r steps at once
-pub lowest-run : (p : ℕ → Bool) (c r : ℕ) → ((j : ℕ) → j < r → p (c + j) ≡ true) → lowestNot p (1087 - (c + r)) (c + r) ≡ lowestNot p (1087 - c) c
-lowest-run p c zero h = ap (λ (n : ℕ). lowestNot p (1087 - n) n) (add-zero c)
+pub lowest-run : (p : ℕ → Bool) (c r : ℕ) → ((j : ℕ) → j < r → p (c + j) ≡ true) → lowestNot p (sweptEnd - (c + r)) (c + r) ≡ lowestNot p (sweptEnd - c) c
+lowest-run p c zero h = ap (λ (n : ℕ). lowestNot p (sweptEnd - n) n) (add-zero c)
 lowest-run p c (suc r) h =
     let e : c + suc r ≡ c + r + 1 = omega arith in
-    ap (λ (n : ℕ). lowestNot p (1087 - n) n) e
+    ap (λ (n : ℕ). lowestNot p (sweptEnd - n) n) e
     ∙ ⊎-elim
-    (λ (z : 1087 - (c + r) ≡ 0). lowest-none p (c + r + 1) (omega arith) ∙ sym (lowest-none p (c + r) (omega arith)))
-    (λ (l : 0 < 1087 - (c + r)). lowest-step p (c + r) (omega arith) (h r (omega arith)))
-    (eq-zero-or-pos (1087 - (c + r)))
+    (λ (z : sweptEnd - (c + r) ≡ 0). lowest-none p (c + r + 1) (omega arith) ∙ sym (lowest-none p (c + r) (omega arith)))
+    (λ (l : 0 < sweptEnd - (c + r)). lowest-step p (c + r) (omega arith) (h r (omega arith)))
+    (eq-zero-or-pos (sweptEnd - (c + r)))
     ∙ lowest-run p c r (λ j l. h j (omega arith))
 
 -- ---- it is the lowest
@@ -95,11 +99,13 @@ module _ (p : ℕ → Bool) where
 -- ---- a finished sweep
 
 -- the numbers from 2 on, 1,085 of them, are the swept channels
-from-swept : (c : ℕ) → swept c ≡ true → (2 ≤ c) × (c < 2 + 1085)
-from-swept c e = let h = leb-true c 1086 (right (leb 2 c) (leb c 1086) e) in (leb-true 2 c (left (leb 2 c) (leb c 1086) e), omega arith)
+from-swept : (c : ℕ) → swept c ≡ true → (firstSwept ≤ c) × (c < sweptEnd)
+from-swept c e =
+    let h = leb-true c lastSwept (right (leb firstSwept c) (leb c lastSwept) e) in
+    (leb-true firstSwept c (left (leb firstSwept c) (leb c lastSwept) e), omega arith)
 
-to-swept : (c : ℕ) → 2 ≤ c → c < 2 + 1085 → swept c ≡ true
-to-swept c l m = both (le-leb 2 c l) (le-leb c 1086 (omega arith))
+to-swept : (c : ℕ) → firstSwept ≤ c → c < sweptEnd → swept c ≡ true
+to-swept c l m = both (le-leb firstSwept c l) (le-leb c lastSwept (omega arith))
 
 module _ (s : Sweep) where
   swept-visited : finished s ≡ true → (c : ℕ) → swept c ≡ true → visited s c ≡ true
@@ -111,27 +117,27 @@ module _ (s : Sweep) where
   visited-swept h = each-all channels (λ c. implies (swept c) (visited s c)) (λ c l. implied (swept c) (visited s c) (h c l))
 
   -- the channels that the sweep visits are 1,085
-  number-swept : howMany channels swept ≡ 1085
+  number-swept : howMany channels swept ≡ sweptChannels
   unfolding howMany
   number-swept = refl
 
-  all-visited : wellFormed s ≡ true → finished s ≡ true → setBits (s .visited) ≡ 1085
+  all-visited : wellFormed s ≡ true → finished s ≡ true → setBits (s .visited) ≡ sweptChannels
   unfolding setBits
   all-visited w f = many-same (visited s) swept channels (λ c l. same-test (visited s c) (swept c) (wellFormedRule s .0 w .visitedSwept c l) (swept-visited f c)) ∙ number-swept
 
-  visited-all : wellFormed s ≡ true → setBits (s .visited) ≡ 1085 → finished s ≡ true
+  visited-all : wellFormed s ≡ true → setBits (s .visited) ≡ sweptChannels → finished s ≡ true
   unfolding setBits
   visited-all w e = visited-swept (many-all (visited s) swept channels (wellFormedRule s .0 w .visitedSwept) (le-of-eq (number-swept ∙ sym e)))
 
 pub nextLowest : NextLowest
 unfolding nextOf
 nextLowest s = record {
-  inSweep = λ c e. let r = found-lowest (visited s) 1085 2 c e in to-swept c (r .0) (r .1);
-  notVisited = λ c e. found-lowest (visited s) 1085 2 c e .2;
-  lowest = λ c e d t l. found-lowest (visited s) 1085 2 c e .3 d (from-swept d t .0) l;
+  inSweep = λ c e. let r = found-lowest (visited s) sweptChannels firstSwept c e in to-swept c (r .0) (r .1);
+  notVisited = λ c e. found-lowest (visited s) sweptChannels firstSwept c e .2;
+  lowest = λ c e d t l. found-lowest (visited s) sweptChannels firstSwept c e .3 d (from-swept d t .0) l;
   finishedDone = (
-    λ f. all-done (visited s) 1085 2 (λ e l m. swept-visited s f e (to-swept e l m)),
-    λ d. visited-swept s (λ c l e. let r = from-swept c e in none-left (visited s) 1085 2 d c (r .0) (r .1)),
+    λ f. all-done (visited s) sweptChannels firstSwept (λ e l m. swept-visited s f e (to-swept e l m)),
+    λ d. visited-swept s (λ c l e. let r = from-swept c e in none-left (visited s) sweptChannels firstSwept d c (r .0) (r .1)),
   );
   finishedCounted = λ w. (all-visited s w, visited-all s w);
 }

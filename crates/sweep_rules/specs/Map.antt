@@ -4,10 +4,11 @@ use mathlib.Core.Bool.{Bool, true, _&&_, cond}
 use mathlib.Core.List.{List}
 use lib.ListN.{getD, set}
 use lib.Dec.{eqb}
+use Rattle.readings.specs.Channels.{channelHighest}
 
--- channel numbers run 0 to 1,087
+-- how many channel numbers there are: 0 to 1,087
 abbrev pub channels : ℕ
-channels = 1088
+channels = suc channelHighest
 
 -- the bits of a word
 abbrev pub wordBits : ℕ

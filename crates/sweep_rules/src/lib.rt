@@ -41,8 +41,8 @@ pub struct SweepNumbers {
     pub answer: Numbers,
 }
 
-// Channel numbers run 0 to 1,087.
-pub const CHANNELS: usize = 1088;
+// How many channel numbers there are: 1,088.
+pub const CHANNELS: usize = readings::CHANNEL_HIGHEST as usize + 1;
 
 // The channels that the sweep visits.
 pub const FIRST_SWEPT: usize = 2;

@@ -13,7 +13,8 @@ use Rattle.readings.specs.Ranges.{levelInRange}
 use Rattle.watch_rules.specs.declared.Track.{Track}
 use Rattle.watch_rules.specs.declared.Watch.{Watch}
 use Rattle.watch_rules.specs.Lists.{distinct, every, padTo}
-use Rattle.watch_rules.specs.Limits.{channelInRange, depth, capacity, room}
+use Rattle.readings.specs.Channels.{channelInRange}
+use Rattle.watch_rules.specs.Limits.{depth, capacity, room}
 use Rattle.watch_rules.specs.Rows.{Row, row, channels}
 use Rattle.watch_rules.specs.Record.{rowOf, rows, trackOf, unused, recordOf, isZero, levelsFine, trackFine, trackUnused, tracksFine, wellFormed}
 use Rattle.watch_rules.proofs.Depth.{depth-within}

@@ -9,7 +9,8 @@ use lib.ListN.{length}
 use borrow.Author.Tests.{leb-true}
 use Rattle.readings.specs.Ranges.{levelInRange}
 use Rattle.watch_rules.specs.Lists.{distinct, every}
-use Rattle.watch_rules.specs.Limits.{channelInRange, depth, room}
+use Rattle.readings.specs.Channels.{channelInRange}
+use Rattle.watch_rules.specs.Limits.{depth, room}
 use Rattle.watch_rules.specs.Rows.{Row, channels}
 use Rattle.watch_rules.proofs.Laws.{and-left, and-right}
 

@@ -23,7 +23,8 @@ use Rattle.readings.specs.Burst.{BurstResult, heard, bothOf, burstOf}
 use Rattle.readings.proofs.Claims.{readBack}
 use Rattle.watch_rules.specs.declared.Watch.{Watch}
 use Rattle.watch_rules.specs.Lists.{mem, distinct, every}
-use Rattle.watch_rules.specs.Limits.{channelHighest, channelInRange, listLimit, depth}
+use Rattle.readings.specs.Channels.{channelHighest, channelInRange}
+use Rattle.watch_rules.specs.Limits.{listLimit, depth}
 use Rattle.watch_rules.specs.Told.{Call, start, newList, file, Called}
 use Rattle.watch_rules.specs.Rules.{refusal, burstRefusal, listSound, unlessRefused}
 use Rattle.watch_rules.specs.Rows.{Row, row, channels, levelsOf, shown, push, pushAt, changedRows, filedRows}

@@ -16,7 +16,8 @@ use Rattle.readings.specs.Ranges.{levelInRange}
 use Rattle.readings.specs.Burst.{BurstResult, heard, missed, burstOf, InRange}
 use Rattle.readings.proofs.Claims.{burstInRange}
 use Rattle.watch_rules.specs.Lists.{mem, distinct, every, is, lastN}
-use Rattle.watch_rules.specs.Limits.{channelInRange, listLimit, depth, room}
+use Rattle.readings.specs.Channels.{channelInRange}
+use Rattle.watch_rules.specs.Limits.{listLimit, depth, room}
 use Rattle.watch_rules.specs.Told.{Call, start, newList, move, file, ask, verdict}
 use Rattle.watch_rules.specs.Rules.{View, watched, serves, refusal, listSound, burstRefusal}
 use Rattle.watch_rules.specs.Plain.{Plain, seen, change, afterFile, underWatch}

@@ -15,7 +15,8 @@ use Rattle.readings.specs.Ranges.{levelInRange}
 use Rattle.watch_rules.specs.declared.Track.{Track}
 use Rattle.watch_rules.specs.declared.Watch.{Watch}
 use Rattle.watch_rules.specs.Lists.{every}
-use Rattle.watch_rules.specs.Limits.{channelInRange, depth}
+use Rattle.readings.specs.Channels.{channelInRange}
+use Rattle.watch_rules.specs.Limits.{depth}
 use Rattle.watch_rules.specs.Told.{Call, ask, verdict, Called}
 use Rattle.watch_rules.specs.Rules.{refusal}
 use Rattle.watch_rules.specs.Rows.{Row, shown, changedRows}

@@ -13,7 +13,8 @@ use Rattle.refusal.specs.declared.Refusal.the-variants as why
 use Rattle.refusal.specs.Told.{Told, gives}
 use Rattle.watch_rules.specs.declared.Watch.{Watch}
 use Rattle.watch_rules.specs.Lists.{every, is, sum}
-use Rattle.watch_rules.specs.Limits.{channelHighest, channelInRange, hysteresisInRange, depth}
+use Rattle.readings.specs.Channels.{channelHighest, channelInRange}
+use Rattle.watch_rules.specs.Limits.{hysteresisInRange, depth}
 use Rattle.watch_rules.specs.Told.{Call, verdict, Given, wait, stay, moveTo}
 use Rattle.watch_rules.specs.Rules.{View, serves, answer, full, servingLevels, exceeds, counts, target, stayOrMove, verdictOf}
 use Rattle.watch_rules.specs.Plain.{idle, seen, after}

@@ -20,7 +20,8 @@ use Rattle.readings.specs.Ranges.{levelInRange}
 use Rattle.watch_rules.specs.declared.Track.{Track}
 use Rattle.watch_rules.specs.declared.Watch.{Watch}
 use Rattle.watch_rules.specs.Lists.{mem, timesIn, distinct, every, is, lastN, sum}
-use Rattle.watch_rules.specs.Limits.{channelInRange, hysteresisInRange, depth, room}
+use Rattle.readings.specs.Channels.{channelInRange}
+use Rattle.watch_rules.specs.Limits.{hysteresisInRange, depth, room}
 use Rattle.watch_rules.specs.Told.{Call, start, newList, move, file, ask, verdict, Given, levels, wait, stay, moveTo, told, toldHanded}
 use Rattle.watch_rules.specs.Rules.{View, serves, mean, full, counts, target, servingLevels}
 use Rattle.watch_rules.specs.Plain.{Plain, idle, underWatch, seen, answers, after}

@@ -1,16 +1,8 @@
--- Document 01, section The watch: the numbers of the watch, each named once, here. The range of a level is the readings' matter.
+-- Document 01, section The watch: the numbers of the watch, each named once, here. The range of a level and the channel numbers are the readings' matter.
 use Prim.Native.Nat.{ℕ, suc}
 use mathlib.Core.Bool.{Bool, _&&_}
-use lib.Dec.{leb}
 use lib.IntN.{ℤ, pos}
 use lib.Signed.{leZ}
-
--- channel numbers run 0 to 1,087
-abbrev pub channelHighest : ℕ
-channelHighest = 1087
-
-abbrev pub channelInRange : ℕ → Bool
-channelInRange c = leb c channelHighest
 
 -- a watch has a serving channel and 0 to 6 neighbours
 abbrev pub listLimit : ℕ

@@ -11,7 +11,8 @@ use Rattle.readings.specs.Ranges.{levelInRange}
 use Rattle.watch_rules.specs.declared.Track.{Track}
 use Rattle.watch_rules.specs.declared.Watch.{Watch}
 use Rattle.watch_rules.specs.Lists.{distinct, padTo}
-use Rattle.watch_rules.specs.Limits.{channelInRange, depth, capacity, room}
+use Rattle.readings.specs.Channels.{channelInRange}
+use Rattle.watch_rules.specs.Limits.{depth, capacity, room}
 use Rattle.watch_rules.specs.Told.{Call, Called, Given, accepted}
 use Rattle.watch_rules.specs.Rules.{refusal, answer, unlessRefused}
 use Rattle.watch_rules.specs.Rows.{Row, row, channels, shown, changedRows}

@@ -13,7 +13,8 @@ use Rattle.refusal.specs.declared.Refusal.the-variants.{ReadingOutOfRange, Chan
 use Rattle.refusal.specs.Told.{Told, refused, gives, refusedFor}
 use Rattle.readings.specs.Burst.{BurstResult, burstOf}
 use Rattle.watch_rules.specs.Lists.{distinct, every, is, sum}
-use Rattle.watch_rules.specs.Limits.{channelHighest, channelInRange, listLimit, hysteresisInRange, depth}
+use Rattle.readings.specs.Channels.{channelHighest, channelInRange}
+use Rattle.watch_rules.specs.Limits.{listLimit, hysteresisInRange, depth}
 use Rattle.watch_rules.specs.Told.{Call, start, newList, move, file, ask, verdict, Given, accepted, levels, wait, stay, moveTo}
 
 -- what a watch shows: the levels are a channel's last 15, or all if fewer, oldest first; a channel not under watch has none

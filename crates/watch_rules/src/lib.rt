@@ -9,8 +9,6 @@ pub const DEPTH: usize = 15;
 // How many channels a list may have.
 pub const LIST_LIMIT: usize = 6;
 
-pub const CHANNEL_HIGHEST: u16 = 1087;
-
 // In hundredths of a dB.
 pub const HYSTERESIS_HIGHEST: i32 = 6000;
 

@@ -7,17 +7,18 @@ use mathlib.Core.List.{List}
 use lib.ListN.{getD}
 use Rattle.refusal.specs.Told.{gives}
 use Rattle.sweep_rules.specs.Map.{isSet}
+use Rattle.sweep_rules.specs.Record.{firstSwept, sweptChannels}
 use Rattle.sweep_rules.specs.Next.{lowestNot}
 use Rattle.sweep_rules.proofs.Maps.{words-fit, set-in-run, clear-at-none}
-use Rattle.sweep_rules.proofs.Lowest.{lowest-here, lowest-run, lowest-none}
+use Rattle.sweep_rules.proofs.Lowest.{sweptEnd, lowest-here, lowest-run, lowest-none}
 use Rattle.sweep.proofs.lowest_clear.Statement.{statement}
 use Rattle.sweep.proofs.lowest_clear.Tie as tie
 
 abbrev Inv-loop : tie.InvT-loop
-Inv-loop map c₀ c = lowestNot (isSet map) (1087 - c) c ≡ lowestNot (isSet map) 1085 2
+Inv-loop map c₀ c = lowestNot (isSet map) (sweptEnd - c) c ≡ lowestNot (isSet map) sweptChannels firstSwept
 
 abbrev μ-loop : tie.MeasureT-loop
-μ-loop map c₀ c = 1087 - c
+μ-loop map c₀ c = sweptEnd - c
 
 loop-holds : tie.Need-loop-holds Inv-loop μ-loop
 loop-holds c = refl

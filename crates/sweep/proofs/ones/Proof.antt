@@ -4,7 +4,7 @@ use mathlib.Core.Path.{_≡_, refl, sym, ap, _∙_}
 use native.Mathlib.Omega.{arith}
 use lib.ListN.{getD}
 use lib.Count.{ones, ones-le}
-use Rattle.sweep_rules.specs.Map.{isSet, howMany, setBits}
+use Rattle.sweep_rules.specs.Map.{channels, wordBits, isSet, howMany, setBits}
 use Rattle.sweep_rules.proofs.Tests.{many-le}
 use Rattle.sweep_rules.proofs.Maps.{words-fit, many-word}
 use Rattle.sweep.proofs.ones.Statement.{statement}
@@ -49,7 +49,7 @@ returns : tie.Need-returns Inv-loop μ-loop
 unfolding setBits
 returns c =
     let m = c .before .before .args .t1 in
-    let e : c .before .loop .i * 64 ≡ 1088 = omega arith in
+    let e : c .before .loop .i * wordBits ≡ channels = omega arith in
     c .before .loop .inv .1 ∙ ap (λ (n : ℕ). howMany n (isSet m)) e
 
 pub ones-spec : {M : Type 1} → statement M
