@@ -11,7 +11,7 @@ use lib.IntN.{ℤ}
 use lib.Ieee.{Float}
 use Rattle.readings.specs.declared.Burst.{Burst}
 use Rattle.readings.specs.declared.Burst.the-variants.{Heard, Missed}
-use Rattle.power.specs.declared.Decoded.the-variants.{Failed, Codes}
+use Rattle.power_rules.specs.declared.Decoded.the-variants.{Failed, Codes}
 use Rattle.watch_rules.specs.Limits.{channelInRange}
 use Rattle.watch_rules.specs.Told.{start, newList, move, file, ask, verdict}
 use Rattle.session_words.specs.Bytes.{bytesOf, alike}
