@@ -13,10 +13,10 @@ use Rattle.sweep_rules.specs.declared.Sweep.{Sweep}
 use Rattle.choice_rules.specs.Choose.{notRead, suitable, barred}
 use Rattle.watch_rules.specs.Told.{Call, start, newList, file, Given}
 use Rattle.watch_rules.specs.Record.{fresh, called, afterFrom}
-use Rattle.power.specs.declared.PowerParameters.{PowerParameters}
-use Rattle.power.specs.declared.PowerRecord.{PowerRecord}
-use Rattle.power.specs.declared.Decoded.{Decoded}
-use Rattle.power.specs.Calls.{ToSend, started, stepped}
+use Rattle.power_rules.specs.declared.PowerParameters.{PowerParameters}
+use Rattle.power_rules.specs.declared.PowerRecord.{PowerRecord}
+use Rattle.power_rules.specs.declared.Decoded.{Decoded}
+use Rattle.power_rules.specs.Calls.{ToSend, started, stepped}
 
 -- so many hundredths below 0
 abbrev pub minus : ℕ → ℤ

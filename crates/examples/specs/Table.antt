@@ -7,8 +7,8 @@ use Rattle.refusal.specs.Told.{Told, refused, gives}
 use Rattle.readings.specs.Hundredths.{levelOf, qualityOf}
 use Rattle.choice_rules.specs.Choose.{camp, read, noBeam, choosing}
 use Rattle.watch_rules.specs.Told.{ask, verdict, levels, wait, stay, moveTo}
-use Rattle.power.specs.declared.Decoded.the-variants.{Failed, Codes}
-use Rattle.power.specs.Calls.{stepped}
+use Rattle.power_rules.specs.declared.Decoded.the-variants.{Failed, Codes}
+use Rattle.power_rules.specs.Calls.{stepped}
 use Rattle.examples.specs.Given.{minus, single, nothingHeard, threeHeard, nothingRead, threeRead, answerAfter, twoLevels, twoChannels, parameters, atStart, parOf, pansSent}
 
 -- a row: what the definitions give, and what the paper says

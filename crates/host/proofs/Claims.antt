@@ -14,9 +14,9 @@ use Rattle.readings.specs.declared.Hundredths.the-variants as hundredths
 use Rattle.readings.specs.declared.Shown.{Shown}
 use Rattle.readings.specs.declared.Shown.the-variants as shown
 use Rattle.readings.specs.Told.{toldHundredths, toldShown}
-use Rattle.power.specs.declared.Answer.{Answer}
-use Rattle.power.specs.declared.Answer.the-variants as answer
-use Rattle.power.specs.Told.{toldAnswer}
+use Rattle.power_rules.specs.declared.Answer.{Answer}
+use Rattle.power_rules.specs.declared.Answer.the-variants as answer
+use Rattle.power_rules.specs.Told.{toldAnswer}
 use Rattle.host.specs.declared.HundredthsAnswer.{HundredthsAnswer}
 use Rattle.host.specs.declared.FloatAnswer.{FloatAnswer}
 use Rattle.host.specs.declared.SentAnswer.{SentAnswer}

@@ -8,12 +8,12 @@ use mir.Val.{Val, vint, ofZ}
 use denote.Laws.{Is}
 use denote.Builtin.{u32}
 use denote.Struct.Laws as LL
-use Rattle.power.specs.declared.PowerParameters.{PowerParameters}
-use Rattle.power.specs.declared.PowerRecord.{PowerRecord}
-use Rattle.power.proofs.PowerParameters as P
-use Rattle.power.proofs.PowerParameters.Laws as P′
-use Rattle.power.proofs.PowerRecord as R
-use Rattle.power.proofs.PowerRecord.Laws as R′
+use Rattle.power_rules.specs.declared.PowerParameters.{PowerParameters}
+use Rattle.power_rules.specs.declared.PowerRecord.{PowerRecord}
+use Rattle.power_rules.proofs.PowerParameters as P
+use Rattle.power_rules.proofs.PowerParameters.Laws as P′
+use Rattle.power_rules.proofs.PowerRecord as R
+use Rattle.power_rules.proofs.PowerRecord.Laws as R′
 use Rattle.host.specs.declared.SentAnswer.{SentAnswer}
 use Rattle.host.specs.declared.Sent.{Sent}
 use Rattle.host.specs.declared.Started.{Started}

@@ -4,7 +4,7 @@ use mathlib.Core.Bool.{false}
 use lib.IntN.{ℤ, pos, natAbs}
 use lib.Ieee.{Float, fin}
 use Rattle.refusal.specs.Told.{Told, refused, gives}
-use Rattle.power.specs.Calls.{ToSend}
+use Rattle.power_rules.specs.Calls.{ToSend}
 use Rattle.host.specs.declared.HundredthsAnswer.{HundredthsAnswer}
 use Rattle.host.specs.declared.FloatAnswer.{FloatAnswer}
 use Rattle.host.specs.declared.SentAnswer.{SentAnswer}

@@ -5,8 +5,8 @@ use Rattle.refusal.specs.Claims.{OneToOne}
 use Rattle.readings.specs.declared.Hundredths.{Hundredths}
 use Rattle.readings.specs.declared.Shown.{Shown}
 use Rattle.readings.specs.Told.{toldHundredths, toldShown}
-use Rattle.power.specs.declared.Answer.{Answer}
-use Rattle.power.specs.Told.{toldAnswer}
+use Rattle.power_rules.specs.declared.Answer.{Answer}
+use Rattle.power_rules.specs.Told.{toldAnswer}
 use Rattle.host.specs.Answers.{refusalNumber, hundredthsAnswer, floatAnswer, sentAnswer}
 
 -- nothing is lost at the border: the numbers that a host finds fix the library's answer, its case and its values

@@ -1,6 +1,2 @@
--- The laws of the power steps, in the order in which they stand on each other.
-pub mod Whole
-pub mod Ranges
-pub mod Rules
-pub mod Steps
-pub mod Claims
+-- The laws that the proofs of `quality_of` and `step` share.
+pub mod Qualities

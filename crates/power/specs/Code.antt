@@ -1,72 +1,11 @@
--- The power steps in natural numbers, as the code works them out: what the private functions return. `proofs/Rules.antt` shows that these are
--- the numbers of `PowerSteps`. No reader of the public contracts needs this file.
-use mathlib.Core.Path.{_≡_}
+-- What the private `quality_of` returns; what the others return is defined beside the rules. No reader of the public contracts needs this file.
 use mathlib.Core.Bool.{cond}
-use Prim.Native.Nat.{ℕ, _+_, _-_, _≤_, _*_, _/_, _%_, min, max}
-use lib.Dec.{ltb}
-use lib.IntN.{ℤ, _-ℤ_, natAbs}
-use Rattle.readings.specs.Ranges.{qualityLowest, qualityHighest, qualityInRange}
-use Rattle.power.specs.declared.PowerParameters.{PowerParameters}
-use Rattle.power.specs.declared.PowerRecord.{PowerRecord}
+use lib.IntN.{ℤ}
+use Rattle.readings.specs.Ranges.{qualityInRange}
+use Rattle.power_rules.specs.Code.{aboveLowest}
 use Rattle.power.specs.declared.Quality.{Quality}
 use Rattle.power.specs.declared.Quality.the-variants.{InRange, OutOfRange}
-use Rattle.power.specs.Constants.{sqtHighest, numericHighest, gainUpHighest, gainDnHighest, mestepHighest, sqtStep, codeStep, mestepStep, thousandthsHighest}
 
--- 0 dB and the highest quality, counted from the lowest
-abbrev pub zeroQuality : ℕ
-zeroQuality = natAbs qualityLowest
-
-abbrev pub qualitySpan : ℕ
-qualitySpan = natAbs (qualityHighest -ℤ qualityLowest)
-
--- a quality, counted from the lowest
-abbrev pub aboveLowest : ℤ → ℕ
-aboveLowest q = natAbs (q -ℤ qualityLowest)
-
+-- a quality, counted from the lowest, if it is in its range
 abbrev pub qualityOf : ℤ → Quality
 qualityOf q = cond (qualityInRange q) (InRange (aboveLowest q)) OutOfRange
-
--- what the rules need of parameters that are in range, and of a record that is well formed
-pub record Usable (p : PowerParameters) : Type 0 where
-  pub sqt : p .sqt ≤ sqtHighest
-  pub paninit : p .paninit ≤ numericHighest
-  pub limits : p .panmin ≤ p .panmax
-  pub gainup : p .gainup ≤ gainUpHighest
-  pub gaindn : p .gaindn ≤ gainDnHighest
-  pub mestep : p .mestep ≤ mestepHighest
-
-pub record Formed (r : PowerRecord) : Type 0 where
-  pub panlast : r .panlast ≤ numericHighest
-  pub parsave : r .parsave ≤ numericHighest
-  pub panbasic : r .panbasic ≤ numericHighest
-  pub increase : r .increase ≤ thousandthsHighest
-  pub multiple : r .increase % mestepStep ≡ 0
-
--- SQT, counted as a quality is
-abbrev pub targetAt : PowerParameters → ℕ
-targetAt p = sqtStep * p .sqt + zeroQuality
-
--- the gain at a quality of n above the lowest
-abbrev pub gainAt : PowerParameters → ℕ → ℕ → ℕ
-gainAt p target n = cond (ltb target n) (p .gaindn) (p .gainup)
-
--- T brought into 0 to 24,000
-abbrev pub heldAt : PowerParameters → ℕ → ℕ → ℕ
-heldAt p panuse n =
-    cond (ltb (targetAt p) n)
-    (min thousandthsHighest (codeStep * panuse + gainAt p (targetAt p) n * (n - targetAt p)))
-    (codeStep * panuse - gainAt p (targetAt p) n * (targetAt p - n))
-
--- the nearest code, a half to the lower
-abbrev pub nearestCode : ℕ → ℕ
-nearestCode t = (t + (codeStep / 2 - 1)) / codeStep
-
-abbrev pub parAt : PowerParameters → ℕ → ℕ → ℕ
-parAt p panuse n = nearestCode (heldAt p panuse n)
-
--- the whole codes in so many thousandths
-abbrev pub wholeCodes : ℕ → ℕ
-wholeCodes t = t / codeStep
-
-abbrev pub panAt : PowerParameters → PowerRecord → ℕ
-panAt p r = max (p .panmin) (min (p .panmax) (wholeCodes (codeStep * r .panbasic - r .increase)))

@@ -1,66 +1,23 @@
-// Power steps: the two codes that a terminal sends in each power control message, and the record that it keeps from one to the next.
-// Document 01, section Power steps; source document 000, clause 5.4, items 1 to 5.2, and clause 11.1.
+// The calls of the power steps: start, test and step, by value, and the step on a record that is lent. Document 01, section Power steps;
+// source document 000, clause 5.4, items 1 to 5.2, and clause 11.1.
 ghost use mathlib.Core.Path.{_≡_};
 ghost use Prim.Native.Nat.{_≤_, min};
-ghost use Rattle.power.specs.declared.Answer.the-variants.{Send, Refused};
-ghost use Rattle.power.specs.Constants.{numericHighest, thousandthsHighest};
-ghost use Rattle.power.specs.PowerSteps.{parametersInRange, codesInRange, wellFormed, freshWith, panUse, panBasicAfter, parSaveAfter, increaseAfter, recordAfter};
-ghost use Rattle.power.specs.Calls.{started, tested, stepped};
-ghost use Rattle.power.specs.Told.{toldAnswer};
-ghost use Rattle.power.specs.Code.{Usable, Formed, qualitySpan, qualityOf, gainAt, heldAt, nearestCode, wholeCodes, parAt, panAt};
-ghost use Rattle.power.specs.Claims.{StartsWellFormed, StaysWellFormed, RefusedKeepsRecord, SendsWithinLimits, RoundsDown, AnswersDiffer};
 ghost use Rattle.refusal.specs.Told.{toldOutcome};
+ghost use Rattle.power_rules.specs.declared.Answer.the-variants.{Send, Refused};
+ghost use Rattle.power_rules.specs.Constants.{numericHighest, thousandthsHighest};
+ghost use Rattle.power_rules.specs.PowerSteps.{parametersInRange, codesInRange, wellFormed, freshWith, panUse, panBasicAfter, parSaveAfter, increaseAfter, recordAfter};
+ghost use Rattle.power_rules.specs.Calls.{started, tested, stepped};
+ghost use Rattle.power_rules.specs.Told.{toldAnswer};
+ghost use Rattle.power_rules.specs.Code.{Usable, Formed, qualitySpan, gainAt, heldAt, nearestCode, wholeCodes, parAt, panAt};
+ghost use Rattle.power.specs.Code.{qualityOf};
+pub use power_rules::Answer;
+pub use power_rules::Decoded;
+pub use power_rules::Handed;
+pub use power_rules::PowerParameters;
+pub use power_rules::PowerRecord;
+pub use power_rules::Stepped;
 use refusal::Outcome;
 use refusal::Refusal;
-
-// The parameters, as codes.
-#[repr(C)]
-pub struct PowerParameters {
-    // The quality aimed at, by 0.1 dB.
-    pub sqt: u32,
-    // Attenuations, by 0.4 dB.
-    pub paninit: u32,
-    pub panmin: u32,
-    pub panmax: u32,
-    // Gains of the loop, by 0.1: where the quality is not above the one aimed at, and where it is.
-    pub gainup: u32,
-    pub gaindn: u32,
-    // What each failed message adds to the increase, by 0.2 dB.
-    pub mestep: u32,
-}
-
-// The power record: three codes, and the increase in thousandths of a dB.
-#[repr(C)]
-pub struct PowerRecord {
-    pub panlast: u32,
-    pub parsave: u32,
-    pub panbasic: u32,
-    pub increase: u32,
-}
-
-// What decoding the other end's message gave.
-pub enum Decoded {
-    Failed,
-    Codes { pan: u32, par: u32 },
-}
-
-// What a step answers: the codes to send.
-pub enum Answer {
-    Send { par: u32, pan: u32 },
-    Refused(Refusal),
-}
-
-// A record, beside what a step answers.
-pub struct Stepped {
-    pub power: PowerRecord,
-    pub answer: Answer,
-}
-
-// A record, beside what a start or a test answers.
-pub struct Handed {
-    pub power: PowerRecord,
-    pub answer: Outcome,
-}
 
 // A quality that is in its range, counted from the lowest.
 enum Quality {
@@ -366,13 +323,3 @@ pub fn advance(r: &mut PowerRecord, p: PowerParameters, d: Decoded, sqi: i32) ->
     *r = s.power;
     s.answer
 }
-
-// Nothing to run: its contract is all that is claimed of the power steps beyond the calls, so that the check asks for the proof of each.
-pub fn claimed()
-    ensures starts { λ _. ⌜ StartsWellFormed ⌝ }
-    ensures stays { λ _. ⌜ StaysWellFormed ⌝ }
-    ensures refused { λ _. ⌜ RefusedKeepsRecord ⌝ }
-    ensures limits { λ _. ⌜ SendsWithinLimits ⌝ }
-    ensures rounding { λ _. ⌜ RoundsDown ⌝ }
-    ensures told { λ _. ⌜ AnswersDiffer ⌝ }
-{}

@@ -8,7 +8,7 @@ use Rattle.sweep_rules.specs.Next.{Next, channel, done}
 use Rattle.sweep_rules.specs.Counts.{Counts}
 use Rattle.choice_rules.specs.Choose.{Chosen, camp, read, noBeam}
 use Rattle.watch_rules.specs.Told.{Given, accepted, levels, wait, stay, moveTo}
-use Rattle.power.specs.Calls.{ToSend}
+use Rattle.power_rules.specs.Calls.{ToSend}
 use Rattle.session_words.specs.Bytes.{bytesOf}
 use Rattle.session_file.specs.Lines.{newline}
 use Rattle.session_file.specs.Text.{decimalText, signedText, bitsText}

@@ -9,7 +9,7 @@ ghost use Rattle.readings.specs.Told.{toldHundredths, toldShown};
 ghost use Rattle.sweep_rules.specs.Told.{toldNext, toldNumbers};
 ghost use Rattle.choice_rules.specs.Told.{toldChoice};
 ghost use Rattle.watch_rules.specs.Told.{told, levels};
-ghost use Rattle.power.specs.Told.{toldAnswer};
+ghost use Rattle.power_rules.specs.Told.{toldAnswer};
 ghost use Rattle.session_file.specs.Text.{room, said, decimalText};
 ghost use Rattle.session_answers.specs.Lines.{line, refusedText, hundredthsText, floatText, watchText};
 ghost use Rattle.session_answers.specs.Lines.{outcomeLine, hundredthsLine, floatLine, nextLine, countsLine, choiceLine, watchLine, powerLine, errorLine};
@@ -156,12 +156,12 @@ pub fn of_watch(answer: watch_rules::Answer) -> Text
 }
 
 // The codes to send after a power step.
-pub fn of_power(answer: power::Answer) -> Text
+pub fn of_power(answer: power_rules::Answer) -> Text
     ensures { λ r. ⌜ said r ≡ powerLine (toldAnswer answer) ⌝ }
 {
     match answer {
-        power::Answer::Send { par, pan } => two(b"par ", par, b" pan ", pan),
-        power::Answer::Refused(why) => refused(why),
+        power_rules::Answer::Send { par, pan } => two(b"par ", par, b" pan ", pan),
+        power_rules::Answer::Refused(why) => refused(why),
     }
 }
 

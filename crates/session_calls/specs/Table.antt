@@ -11,8 +11,8 @@ use lib.IntN.{ℤ}
 use lib.Ieee.{Float}
 use Rattle.readings.specs.declared.Burst.{Burst}
 use Rattle.readings.specs.declared.Burst.the-variants.{Heard, Missed}
-use Rattle.power.specs.declared.Decoded.the-variants.{Failed, Codes}
 use Rattle.readings.specs.Channels.{channelInRange}
+use Rattle.power_rules.specs.declared.Decoded.the-variants.{Failed, Codes}
 use Rattle.watch_rules.specs.Told.{start, newList, move, file, ask, verdict}
 use Rattle.session_words.specs.Bytes.{bytesOf, alike}
 use Rattle.session_words.specs.Words.{wordsOf, wordAt, mostWords}

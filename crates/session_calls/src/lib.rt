@@ -8,8 +8,8 @@ ghost use Rattle.session_calls.specs.Table.{list, askedOf};
 mod rows;
 mod words;
 
-use power::Decoded;
-use power::PowerParameters;
+use power_rules::Decoded;
+use power_rules::PowerParameters;
 use readings::Burst;
 use rows::power_call;
 use rows::reading_call;

@@ -15,9 +15,9 @@ use Rattle.choice_rules.specs.Choose.{choosing}
 use Rattle.watch_rules.specs.declared.Watch.{Watch}
 use Rattle.watch_rules.specs.Told as rules
 use Rattle.watch_rules.specs.Record.{called}
-use Rattle.power.specs.declared.PowerRecord.{PowerRecord}
-use Rattle.power.specs.declared.PowerParameters.{PowerParameters}
-use Rattle.power.specs.Calls.{started, stepped}
+use Rattle.power_rules.specs.declared.PowerRecord.{PowerRecord}
+use Rattle.power_rules.specs.declared.PowerParameters.{PowerParameters}
+use Rattle.power_rules.specs.Calls.{started, stepped}
 use Rattle.session_calls.specs.declared.ReadingCall.{ReadingCall}
 use Rattle.session_calls.specs.declared.ReadingCall.the-variants.{Level, Quality, ShowLevel, ShowQuality}
 use Rattle.session_calls.specs.declared.SweepCall.{SweepCall}

@@ -7,8 +7,8 @@ use Rattle.readings.specs.Rounding.{nearestLower}
 use Rattle.watch_rules.specs.Limits.{depth}
 use Rattle.watch_rules.specs.Rules.{full, counts, best, target, answer}
 use Rattle.watch_rules.specs.Record.{wellFormed, called}
-use Rattle.power.specs.PowerSteps.{broughtInto, panUse, gain, thousandths, parToSend, panBasicAfter, parSaveAfter, increaseAfter, panToSend}
-use Rattle.power.specs.Calls.{started, sending, stepped}
+use Rattle.power_rules.specs.PowerSteps.{broughtInto, panUse, gain, thousandths, parToSend, panBasicAfter, parSaveAfter, increaseAfter, panToSend}
+use Rattle.power_rules.specs.Calls.{started, sending, stepped}
 use Rattle.examples.proofs.Choices.{reads, camps, narrow, silent}
 use Rattle.examples.proofs.examples.Statement.{statement}
 use Rattle.examples.proofs.examples.Tie as tie

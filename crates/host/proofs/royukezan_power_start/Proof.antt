@@ -38,15 +38,15 @@ use denote.Triple.Table.{entered, cited}
 use denote.Triple.Clauses.{ensured, lasts}
 use denote.Triple.Walked.{Stays, stay-ref, stay-none, walkOf, AllGo, goes-none, goes-ref, Walks, ends-at, walked, walk-meets, says}
 use denote.Exit.{yes}
-use Rattle.power.specs.declared.PowerParameters.{PowerParameters}
-use Rattle.power.specs.declared.PowerRecord.{PowerRecord}
-use Rattle.power.specs.Calls.{started}
+use Rattle.power_rules.specs.declared.PowerParameters.{PowerParameters}
+use Rattle.power_rules.specs.declared.PowerRecord.{PowerRecord}
+use Rattle.power_rules.specs.Calls.{started}
 use Rattle.host.specs.declared.Started.{Started}
 use Rattle.host.specs.Answers.{refusalNumber}
-use Rattle.power.proofs.PowerParameters as P
-use Rattle.power.proofs.PowerParameters.Laws as P′
-use Rattle.power.proofs.PowerRecord as R
-use Rattle.power.proofs.PowerRecord.Laws as R′
+use Rattle.power_rules.proofs.PowerParameters as P
+use Rattle.power_rules.proofs.PowerParameters.Laws as P′
+use Rattle.power_rules.proofs.PowerRecord as R
+use Rattle.power_rules.proofs.PowerRecord.Laws as R′
 use Rattle.host.proofs.Started as T
 use Rattle.host.proofs.Started.Laws as T′
 use Rattle.host.proofs.Lent.{vP, vR, vU, started-power-is, started-refusal-is}

@@ -40,16 +40,16 @@ use denote.Triple.Table.{entered, cited}
 use denote.Triple.Clauses.{ensured, lasts}
 use denote.Triple.Walked.{Stays, stay-ref, stay-none, walkOf, AllGo, goes-none, goes-ref, Walks, ends-at, walked, walk-meets, says}
 use denote.Exit.{yes}
-use Rattle.power.specs.declared.PowerParameters.{PowerParameters}
-use Rattle.power.specs.declared.PowerRecord.{PowerRecord}
-use Rattle.power.specs.declared.Decoded.the-variants.{Codes}
-use Rattle.power.specs.Calls.{stepped}
+use Rattle.power_rules.specs.declared.PowerParameters.{PowerParameters}
+use Rattle.power_rules.specs.declared.PowerRecord.{PowerRecord}
+use Rattle.power_rules.specs.declared.Decoded.the-variants.{Codes}
+use Rattle.power_rules.specs.Calls.{stepped}
 use Rattle.host.specs.declared.Sent.{Sent}
 use Rattle.host.specs.Answers.{sentAnswer}
-use Rattle.power.proofs.PowerParameters as P
-use Rattle.power.proofs.PowerParameters.Laws as P′
-use Rattle.power.proofs.PowerRecord as R
-use Rattle.power.proofs.PowerRecord.Laws as R′
+use Rattle.power_rules.proofs.PowerParameters as P
+use Rattle.power_rules.proofs.PowerParameters.Laws as P′
+use Rattle.power_rules.proofs.PowerRecord as R
+use Rattle.power_rules.proofs.PowerRecord.Laws as R′
 use Rattle.host.proofs.SentAnswer as A′
 use Rattle.host.proofs.SentAnswer.Laws as A″
 use Rattle.host.proofs.Sent as S

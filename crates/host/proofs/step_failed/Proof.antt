@@ -3,8 +3,8 @@ use mathlib.Core.Path.{ap, _∙_}
 use lib.IntN.{ℤ}
 use mir.Syntax.{w32}
 use mir.ValLaws.{toZ-ofZ}
-use Rattle.power.specs.declared.Decoded.the-variants.{Failed}
-use Rattle.power.specs.Calls.{stepped}
+use Rattle.power_rules.specs.declared.Decoded.the-variants.{Failed}
+use Rattle.power_rules.specs.Calls.{stepped}
 use Rattle.host.specs.Answers.{sentAnswer}
 use borrow.Author.Needs.{needs}
 use Rattle.host.proofs.step_failed.Statement.{statement}

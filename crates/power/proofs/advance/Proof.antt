@@ -40,23 +40,23 @@ use denote.Triple.Table.{entered, cited}
 use denote.Triple.Clauses.{ensured, lasts}
 use denote.Triple.Walked.{says, Stays, stay-ref, stay-none, walkOf, AllGo, goes-none, goes-ref, Walks, ends-at, walked, walk-meets}
 use denote.Exit.{yes}
-use Rattle.power.specs.declared.PowerParameters.{PowerParameters}
-use Rattle.power.specs.declared.PowerRecord.{PowerRecord}
-use Rattle.power.specs.declared.Decoded.{Decoded}
-use Rattle.power.specs.declared.Answer.{Answer}
-use Rattle.power.specs.declared.Stepped.{Stepped}
-use Rattle.power.specs.Calls.{stepped}
-use Rattle.power.proofs.Steps.{Tells}
-use Rattle.power.proofs.PowerParameters as P
-use Rattle.power.proofs.PowerParameters.Laws as P′
-use Rattle.power.proofs.PowerRecord as R
-use Rattle.power.proofs.PowerRecord.Laws as R′
-use Rattle.power.proofs.Decoded as D
-use Rattle.power.proofs.Decoded.Laws as D′
-use Rattle.power.proofs.Answer as A′
-use Rattle.power.proofs.Answer.Laws as A″
-use Rattle.power.proofs.Stepped as S
-use Rattle.power.proofs.Stepped.Laws as S′
+use Rattle.power_rules.specs.declared.PowerParameters.{PowerParameters}
+use Rattle.power_rules.specs.declared.PowerRecord.{PowerRecord}
+use Rattle.power_rules.specs.declared.Decoded.{Decoded}
+use Rattle.power_rules.specs.declared.Answer.{Answer}
+use Rattle.power_rules.specs.declared.Stepped.{Stepped}
+use Rattle.power_rules.specs.Calls.{stepped}
+use Rattle.power_rules.proofs.Steps.{Tells}
+use Rattle.power_rules.proofs.PowerParameters as P
+use Rattle.power_rules.proofs.PowerParameters.Laws as P′
+use Rattle.power_rules.proofs.PowerRecord as R
+use Rattle.power_rules.proofs.PowerRecord.Laws as R′
+use Rattle.power_rules.proofs.Decoded as D
+use Rattle.power_rules.proofs.Decoded.Laws as D′
+use Rattle.power_rules.proofs.Answer as A′
+use Rattle.power_rules.proofs.Answer.Laws as A″
+use Rattle.power_rules.proofs.Stepped as S
+use Rattle.power_rules.proofs.Stepped.Laws as S′
 use Rattle.power.proofs.step as step
 use Rattle.power.proofs.step.Symbol as step-def
 use Rattle.power.proofs.step.Symbol.{name as #power·step}

@@ -1,6 +1,6 @@
 -- Both ends follow from the test of the record.
 use mathlib.Core.Path.{refl, sym, _∙_}
-use Rattle.power.specs.Calls.{tested}
+use Rattle.power_rules.specs.Calls.{tested}
 use borrow.Author.Needs.{needs}
 use Rattle.power.proofs.check.Statement.{statement}
 use Rattle.power.proofs.check.Tie as tie

@@ -1,6 +1,6 @@
 -- The test of the two codes, by the cases of what was decoded.
 use mathlib.Core.Path.{sym, ap}
-use Rattle.power.specs.PowerSteps.{codesInRange}
+use Rattle.power_rules.specs.PowerSteps.{codesInRange}
 use borrow.Author.Needs.{needs}
 use Rattle.power.proofs.codes_in_range.Statement.{statement}
 use Rattle.power.proofs.codes_in_range.Tie as tie

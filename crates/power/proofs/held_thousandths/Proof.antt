@@ -2,9 +2,9 @@
 use Prim.Native.Nat.{_*_, _-_, _≤_}
 use native.Mathlib.Omega.{arith}
 use borrow.Author.Tests.{lt-ltb, le-ltb}
-use Rattle.power.specs.Constants.{gainUpHighest}
-use Rattle.power.specs.Code.{qualitySpan, targetAt}
-use Rattle.power.proofs.Ranges.{product, gain-small}
+use Rattle.power_rules.specs.Constants.{gainUpHighest}
+use Rattle.power_rules.specs.Code.{qualitySpan, targetAt}
+use Rattle.power_rules.proofs.Ranges.{product, gain-small}
 use borrow.Author.Needs.{needs}
 use Rattle.power.proofs.held_thousandths.Statement.{statement}
 use Rattle.power.proofs.held_thousandths.Tie as tie

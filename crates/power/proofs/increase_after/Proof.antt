@@ -1,5 +1,5 @@
 -- By the cases of what was decoded; the sum fits, as the record is well formed.
-use Rattle.power.specs.PowerSteps.{increaseAfter}
+use Rattle.power_rules.specs.PowerSteps.{increaseAfter}
 use borrow.Author.Needs.{needs}
 use Rattle.power.proofs.increase_after.Statement.{statement}
 use Rattle.power.proofs.increase_after.Tie as tie

@@ -1,7 +1,7 @@
 -- By the cases of what was decoded, and of the PAR being numeric.
-use Rattle.power.specs.PowerSteps.{panBasicAfter}
+use Rattle.power_rules.specs.PowerSteps.{panBasicAfter}
 use borrow.Author.Needs.{needs}
-use Rattle.power.proofs.Ranges.{is-numeric, not-numeric}
+use Rattle.power_rules.proofs.Ranges.{is-numeric, not-numeric}
 use Rattle.power.proofs.pan_basic_after.Statement.{statement}
 use Rattle.power.proofs.pan_basic_after.Tie as tie
 

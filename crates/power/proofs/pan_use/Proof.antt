@@ -1,7 +1,7 @@
 -- By the cases of what was decoded, and of the code being numeric.
-use Rattle.power.specs.PowerSteps.{panUse}
+use Rattle.power_rules.specs.PowerSteps.{panUse}
 use borrow.Author.Needs.{needs}
-use Rattle.power.proofs.Ranges.{is-numeric, not-numeric}
+use Rattle.power_rules.proofs.Ranges.{is-numeric, not-numeric}
 use Rattle.power.proofs.pan_use.Statement.{statement}
 use Rattle.power.proofs.pan_use.Tie as tie
 

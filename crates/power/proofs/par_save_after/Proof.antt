@@ -1,7 +1,7 @@
 -- By the cases of what was decoded, and of the code being numeric.
-use Rattle.power.specs.PowerSteps.{parSaveAfter}
+use Rattle.power_rules.specs.PowerSteps.{parSaveAfter}
 use borrow.Author.Needs.{needs}
-use Rattle.power.proofs.Ranges.{is-numeric, not-numeric}
+use Rattle.power_rules.proofs.Ranges.{is-numeric, not-numeric}
 use Rattle.power.proofs.par_save_after.Statement.{statement}
 use Rattle.power.proofs.par_save_after.Tie as tie
 

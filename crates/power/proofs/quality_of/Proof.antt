@@ -8,7 +8,8 @@ use mir.ValLaws.{toZ-ofZ}
 use Rattle.readings.specs.Ranges.{qualityLowest}
 use Rattle.power.specs.Code.{qualityOf}
 use Rattle.power.specs.declared.Quality.the-variants.{InRange}
-use Rattle.power.proofs.Rules.{Above, above, inside, outside}
+use Rattle.power_rules.proofs.Rules.{Above, above}
+use Rattle.power.proofs.Qualities.{inside, outside}
 use Rattle.power.proofs.quality_of.Statement.{statement}
 use Rattle.power.proofs.quality_of.Tie as tie
 

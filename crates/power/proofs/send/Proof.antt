@@ -1,10 +1,10 @@
 -- The record after the step is well formed, so that the rules 2 and 4 may be worked out on it.
 use mathlib.Core.Path.{ap, _∙_}
-use Rattle.power.proofs.Ranges.{formed-after}
-use Rattle.power.proofs.Rules.{held-small}
-use Rattle.power.specs.declared.PowerRecord.{PowerRecord}
-use Rattle.power.specs.declared.Answer.the-variants.{Send}
-use Rattle.power.specs.Code.{Formed, heldAt, nearestCode, panAt}
+use Rattle.power_rules.proofs.Ranges.{formed-after}
+use Rattle.power_rules.proofs.Rules.{held-small}
+use Rattle.power_rules.specs.declared.PowerRecord.{PowerRecord}
+use Rattle.power_rules.specs.declared.Answer.the-variants.{Send}
+use Rattle.power_rules.specs.Code.{Formed, heldAt, nearestCode, panAt}
 use borrow.Author.Needs.{needs}
 use Rattle.power.proofs.send.Statement.{statement}
 use Rattle.power.proofs.send.Tie as tie

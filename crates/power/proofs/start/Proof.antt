@@ -1,6 +1,6 @@
 -- Both ends follow from the test of the parameters.
 use mathlib.Core.Path.{refl, sym, _∙_}
-use Rattle.power.specs.Calls.{started}
+use Rattle.power_rules.specs.Calls.{started}
 use borrow.Author.Needs.{needs}
 use Rattle.power.proofs.start.Statement.{statement}
 use Rattle.power.proofs.start.Tie as tie

@@ -5,12 +5,13 @@ use borrow.Author.Tests.{not-true, not-false}
 use lib.IntN.{ℤ}
 use mir.Syntax.{w32}
 use mir.ValLaws.{toZ-ofZ}
-use Rattle.power.specs.PowerSteps.{wellFormed, parametersInRange, codesInRange}
+use Rattle.power_rules.specs.PowerSteps.{wellFormed, parametersInRange, codesInRange}
 use Rattle.power.specs.Code.{qualityOf}
-use Rattle.power.proofs.Whole.{both}
-use Rattle.power.proofs.Ranges.{usable, formed}
-use Rattle.power.proofs.Rules.{was-inside, was-outside, above-small}
-use Rattle.power.proofs.Steps.{refuse-9, refuse-7, refuse-1, accept}
+use Rattle.power_rules.proofs.Whole.{both}
+use Rattle.power_rules.proofs.Ranges.{usable, formed}
+use Rattle.power_rules.proofs.Rules.{above-small}
+use Rattle.power_rules.proofs.Steps.{refuse-9, refuse-7, refuse-1, accept}
+use Rattle.power.proofs.Qualities.{was-inside, was-outside}
 use borrow.Author.Needs.{needs}
 use Rattle.power.proofs.step.Statement.{statement}
 use Rattle.power.proofs.step.Tie as tie

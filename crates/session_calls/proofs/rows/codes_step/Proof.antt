@@ -2,7 +2,7 @@
 use mathlib.Core.Path.{_≡_, refl, ap}
 use mir.Val.{toZ, ofZ}
 use mir.Syntax.{w32}
-use Rattle.power.specs.declared.Decoded.the-variants.{Codes}
+use Rattle.power_rules.specs.declared.Decoded.the-variants.{Codes}
 use Rattle.session_numbers.specs.Told.{toldByte, toldInt}
 use Rattle.session_calls.specs.declared.PowerCall.the-variants.{Step}
 use Rattle.session_calls.specs.Asked.{power}

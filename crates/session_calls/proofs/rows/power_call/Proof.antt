@@ -7,7 +7,7 @@ use mir.Val.{toZ, ofZ}
 use mir.Syntax.{w32}
 use Rattle.session_words.specs.Words.{marked}
 use Rattle.session_numbers.specs.Told.{toldInt}
-use Rattle.power.specs.declared.Decoded.the-variants.{Failed}
+use Rattle.power_rules.specs.declared.Decoded.the-variants.{Failed}
 use Rattle.session_calls.specs.declared.PowerCall.the-variants.{Step}
 use Rattle.session_calls.specs.Asked.{Asked, power, toldCall}
 use Rattle.session_calls.specs.Table.{firstOf, powerRows}

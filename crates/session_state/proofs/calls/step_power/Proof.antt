@@ -2,7 +2,7 @@
 use mathlib.Core.Path.{ap, _∙_}
 use mir.Syntax.{w32}
 use mir.ValLaws.{toZ-ofZ}
-use Rattle.power.specs.Calls.{stepped}
+use Rattle.power_rules.specs.Calls.{stepped}
 use Rattle.session_answers.specs.Lines.{powerLine}
 use Rattle.session_state.specs.Calls.{withPower, powerWritten}
 use borrow.Author.Needs.{needs}

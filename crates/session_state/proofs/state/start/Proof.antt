@@ -1,6 +1,6 @@
 -- `session_state::state::start` meets its contract: each part as its own call or zeros make it.
 use lib.ListN.{replicate}
-use Rattle.power.specs.PowerSteps.{allZeros}
+use Rattle.power_rules.specs.PowerSteps.{allZeros}
 use Rattle.session_state.specs.State.{begins}
 use borrow.Author.Needs.{needs}
 use Rattle.session_state.proofs.state.start.Statement.{statement}

@@ -7,18 +7,18 @@ use Rattle.refusal.specs.declared.Refusal.{Refusal}
 use Rattle.refusal.specs.declared.Refusal.the-variants.{ReadingOutOfRange, ParameterOutOfRange, RecordNotWellFormed}
 use Rattle.refusal.specs.Told.{refusedFor, gives}
 use Rattle.readings.specs.Ranges.{qualityInRange}
-use Rattle.power.specs.declared.PowerParameters.{PowerParameters}
-use Rattle.power.specs.declared.PowerRecord.{PowerRecord}
-use Rattle.power.specs.declared.Decoded.{Decoded}
-use Rattle.power.specs.declared.Answer.the-variants.{Send, Refused}
-use Rattle.power.specs.declared.Stepped.{Stepped}
-use Rattle.power.specs.PowerSteps.{parametersInRange, codesInRange, wellFormed, panUse, recordAfter}
-use Rattle.power.specs.Calls.{HandedBack, ToSend, stepped, sending}
-use Rattle.power.specs.Told.{toldAnswer}
-use Rattle.power.specs.Code.{aboveLowest, parAt, panAt}
-use Rattle.power.proofs.Whole.{both, by-test}
-use Rattle.power.proofs.Ranges.{usable, formed, use-below}
-use Rattle.power.proofs.Rules.{par-law, pan-law}
+use Rattle.power_rules.specs.declared.PowerParameters.{PowerParameters}
+use Rattle.power_rules.specs.declared.PowerRecord.{PowerRecord}
+use Rattle.power_rules.specs.declared.Decoded.{Decoded}
+use Rattle.power_rules.specs.declared.Answer.the-variants.{Send, Refused}
+use Rattle.power_rules.specs.declared.Stepped.{Stepped}
+use Rattle.power_rules.specs.PowerSteps.{parametersInRange, codesInRange, wellFormed, panUse, recordAfter}
+use Rattle.power_rules.specs.Calls.{HandedBack, ToSend, stepped, sending}
+use Rattle.power_rules.specs.Told.{toldAnswer}
+use Rattle.power_rules.specs.Code.{aboveLowest, parAt, panAt}
+use Rattle.power_rules.proofs.Whole.{both, by-test}
+use Rattle.power_rules.proofs.Ranges.{usable, formed, use-below}
+use Rattle.power_rules.proofs.Rules.{par-law, pan-law}
 
 -- what a step hands back is told by its definition
 abbrev pub Tells : Stepped → HandedBack ToSend → Type 0

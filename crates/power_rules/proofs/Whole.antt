@@ -8,8 +8,8 @@ use borrow.Author.Tests.{ltb-true, ltb-false, lt-ltb, le-ltb}
 use lib.Dec.{T, ltb}
 use lib.IntN.{pos, negsuc, _-ℤ_, _*ℤ_, negℤ-negℤ}
 use lib.Signed.{shrZ}
-use Rattle.power.specs.Constants.{codeStep}
-use Rattle.power.specs.PowerSteps.{broughtInto}
+use Rattle.power_rules.specs.Constants.{codeStep}
+use Rattle.power_rules.specs.PowerSteps.{broughtInto}
 
 -- ---- tests
 never : {X : Type 0} → false ≡ true → X

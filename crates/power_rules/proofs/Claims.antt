@@ -10,19 +10,19 @@ use lib.IntN.{ℤ, pos, negsuc, negℤ, natAbs, _*ℤ_}
 use lib.Signed.{_≤ℤ_}
 use Rattle.refusal.specs.Told.{Told, refused, gives}
 use Rattle.refusal.proofs.OneToOne.{by-way-back, refusalOf, refusal-back, gives-refused}
-use Rattle.power.specs.declared.PowerParameters.{PowerParameters}
-use Rattle.power.specs.declared.Answer.{Answer}
-use Rattle.power.specs.declared.Answer.the-variants.{Send, Refused}
-use Rattle.power.specs.Constants.{numericHighest}
-use Rattle.power.specs.PowerSteps.{parametersInRange, wellFormed, freshWith, panUse, recordAfter, parToSend, panToSend}
-use Rattle.power.specs.Calls.{HandedBack, ToSend, started, sending}
-use Rattle.power.specs.Told.{toldAnswer}
-use Rattle.power.specs.Claims.{StartsWellFormed, StaysWellFormed, RefusedKeepsRecord, WithinLimits, SendsWithinLimits, RoundsDown, AnswersDiffer}
-use Rattle.power.specs.Code.{aboveLowest, parAt, panAt}
-use Rattle.power.proofs.Whole.{both, by-test}
-use Rattle.power.proofs.Ranges.{usable, formed, well-formed, formed-after, use-below}
-use Rattle.power.proofs.Rules.{held-small, par-law, pan-law}
-use Rattle.power.proofs.Steps.{step-cases}
+use Rattle.power_rules.specs.declared.PowerParameters.{PowerParameters}
+use Rattle.power_rules.specs.declared.Answer.{Answer}
+use Rattle.power_rules.specs.declared.Answer.the-variants.{Send, Refused}
+use Rattle.power_rules.specs.Constants.{numericHighest}
+use Rattle.power_rules.specs.PowerSteps.{parametersInRange, wellFormed, freshWith, panUse, recordAfter, parToSend, panToSend}
+use Rattle.power_rules.specs.Calls.{HandedBack, ToSend, started, sending}
+use Rattle.power_rules.specs.Told.{toldAnswer}
+use Rattle.power_rules.specs.Claims.{StartsWellFormed, StaysWellFormed, RefusedKeepsRecord, WithinLimits, SendsWithinLimits, RoundsDown, AnswersDiffer}
+use Rattle.power_rules.specs.Code.{aboveLowest, parAt, panAt}
+use Rattle.power_rules.proofs.Whole.{both, by-test}
+use Rattle.power_rules.proofs.Ranges.{usable, formed, well-formed, formed-after, use-below}
+use Rattle.power_rules.proofs.Rules.{held-small, par-law, pan-law}
+use Rattle.power_rules.proofs.Steps.{step-cases}
 
 -- ---- records stay well formed
 fresh-formed : (n : ℕ) → n ≤ numericHighest → wellFormed (freshWith n) ≡ true

@@ -6,14 +6,14 @@ use native.Mathlib.Nat.{mul-le-mul}
 use native.Mathlib.Omega.{arith}
 use borrow.Author.Tests.{leb-true, le-leb, lt-leb, eqb-true, eq-eqb}
 use lib.Dec.{ltb}
-use Rattle.power.specs.declared.PowerParameters.{PowerParameters}
-use Rattle.power.specs.declared.PowerRecord.{PowerRecord}
-use Rattle.power.specs.declared.Decoded.{Decoded}
-use Rattle.power.specs.declared.Decoded.the-variants.{Failed, Codes}
-use Rattle.power.specs.Constants.{numericHighest, gainUpHighest, mestepStep, thousandthsHighest}
-use Rattle.power.specs.PowerSteps.{numeric, parametersInRange, wellFormed, panUse, panBasicAfter, parSaveAfter, increaseAfter, recordAfter}
-use Rattle.power.specs.Code.{Usable, Formed, qualitySpan, gainAt}
-use Rattle.power.proofs.Whole.{both, and-true}
+use Rattle.power_rules.specs.declared.PowerParameters.{PowerParameters}
+use Rattle.power_rules.specs.declared.PowerRecord.{PowerRecord}
+use Rattle.power_rules.specs.declared.Decoded.{Decoded}
+use Rattle.power_rules.specs.declared.Decoded.the-variants.{Failed, Codes}
+use Rattle.power_rules.specs.Constants.{numericHighest, gainUpHighest, mestepStep, thousandthsHighest}
+use Rattle.power_rules.specs.PowerSteps.{numeric, parametersInRange, wellFormed, panUse, panBasicAfter, parSaveAfter, increaseAfter, recordAfter}
+use Rattle.power_rules.specs.Code.{Usable, Formed, qualitySpan, gainAt}
+use Rattle.power_rules.proofs.Whole.{both, and-true}
 
 pub usable : (p : PowerParameters) → parametersInRange p ≡ true → Usable p
 usable p e =

@@ -5,10 +5,10 @@ use Rattle.refusal.specs.declared.Refusal.{Refusal}
 use Rattle.refusal.specs.declared.Refusal.the-variants.{ReadingOutOfRange, ParameterOutOfRange, RecordNotWellFormed}
 use Rattle.refusal.specs.Told.{Told, refusedFor, gives, accepted}
 use Rattle.readings.specs.Ranges.{qualityInRange}
-use Rattle.power.specs.declared.PowerParameters.{PowerParameters}
-use Rattle.power.specs.declared.PowerRecord.{PowerRecord}
-use Rattle.power.specs.declared.Decoded.{Decoded}
-use Rattle.power.specs.PowerSteps.{parametersInRange, codesInRange, wellFormed, freshWith, allZeros, panUse, parToSend, panToSend, recordAfter}
+use Rattle.power_rules.specs.declared.PowerParameters.{PowerParameters}
+use Rattle.power_rules.specs.declared.PowerRecord.{PowerRecord}
+use Rattle.power_rules.specs.declared.Decoded.{Decoded}
+use Rattle.power_rules.specs.PowerSteps.{parametersInRange, codesInRange, wellFormed, freshWith, allZeros, panUse, parToSend, panToSend, recordAfter}
 
 -- a record beside what the call answers
 pub record HandedBack (A : Type 0) : Type 0 where

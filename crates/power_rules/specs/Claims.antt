@@ -6,13 +6,13 @@ use lib.IntN.{ℤ, pos, _*ℤ_}
 use lib.Signed.{shrZ, _≤ℤ_}
 use Rattle.refusal.specs.Told.{refused, gives}
 use Rattle.refusal.specs.Claims.{OneToOne}
-use Rattle.power.specs.declared.PowerParameters.{PowerParameters}
-use Rattle.power.specs.declared.PowerRecord.{PowerRecord}
-use Rattle.power.specs.declared.Decoded.{Decoded}
-use Rattle.power.specs.Constants.{numericHighest}
-use Rattle.power.specs.PowerSteps.{wellFormed}
-use Rattle.power.specs.Calls.{ToSend, started, stepped}
-use Rattle.power.specs.Told.{toldAnswer}
+use Rattle.power_rules.specs.declared.PowerParameters.{PowerParameters}
+use Rattle.power_rules.specs.declared.PowerRecord.{PowerRecord}
+use Rattle.power_rules.specs.declared.Decoded.{Decoded}
+use Rattle.power_rules.specs.Constants.{numericHighest}
+use Rattle.power_rules.specs.PowerSteps.{wellFormed}
+use Rattle.power_rules.specs.Calls.{ToSend, started, stepped}
+use Rattle.power_rules.specs.Told.{toldAnswer}
 
 -- whatever a start hands back is well formed, accepted or refused
 abbrev pub StartsWellFormed : Type 0

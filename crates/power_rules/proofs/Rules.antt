@@ -1,20 +1,19 @@
--- The rules 2 and 4, which document 01 states in whole numbers with a sign, are what the code computes in natural numbers: a quality is
+-- The rules 2 and 4, which document 01 states in whole numbers with a sign, are what the code of `power` computes in natural numbers: a quality is
 -- counted from the lowest, and the two gains are two cases by the order of SQT and SQI.
 use mathlib.Core.Path.{_≡_, refl, ap, _∙_}
-use mathlib.Core.Bool.{true, false}
+use mathlib.Core.Bool.{true}
 use Prim.Native.Nat.{ℕ, suc, _+_, _-_, _*_, _/_, _≤_, _<_}
 use native.Mathlib.Omega.{arith}
 use borrow.Author.Tests.{leb-true, lt-ltb, le-ltb}
 use lib.IntN.{ℤ, pos, negsuc, _-ℤ_}
 use Rattle.readings.specs.Ranges.{qualityLowest, qualityInRange}
 use Rattle.readings.specs.Rounding.{nearestLower}
-use Rattle.power.specs.declared.PowerParameters.{PowerParameters}
-use Rattle.power.specs.declared.PowerRecord.{PowerRecord}
-use Rattle.power.specs.declared.Quality.the-variants.{InRange, OutOfRange}
-use Rattle.power.specs.Constants.{numericHighest, sqtStep, codeStep, thousandthsHighest}
-use Rattle.power.specs.PowerSteps.{broughtInto, gain, thousandths, parToSend, panToSend}
-use Rattle.power.specs.Code.{zeroQuality, qualitySpan, aboveLowest, qualityOf, heldAt, nearestCode, parAt, panAt}
-use Rattle.power.proofs.Whole.{both, by-test, by-order, sub-le, sub-lt, less-times-lt, less-times-le, held, held-sub, held-floor}
+use Rattle.power_rules.specs.declared.PowerParameters.{PowerParameters}
+use Rattle.power_rules.specs.declared.PowerRecord.{PowerRecord}
+use Rattle.power_rules.specs.Constants.{numericHighest, sqtStep, codeStep, thousandthsHighest}
+use Rattle.power_rules.specs.PowerSteps.{broughtInto, gain, thousandths, parToSend, panToSend}
+use Rattle.power_rules.specs.Code.{zeroQuality, qualitySpan, aboveLowest, heldAt, nearestCode, parAt, panAt}
+use Rattle.power_rules.proofs.Whole.{both, by-order, sub-le, sub-lt, less-times-lt, less-times-le, held, held-sub, held-floor}
 
 -- ---- a quality, counted from the lowest
 pub record Above (z : ℤ) : Type 0 where
@@ -32,22 +31,6 @@ pub above-small : (z : ℤ) → qualityInRange z ≡ true → aboveLowest z ≤ 
 above-small z e =
     let a : Above z = above z e in
     rw (a .is) (a .small)
-
-pub inside : (z : ℤ) → qualityInRange z ≡ true → InRange (aboveLowest z) ≡ qualityOf z
-inside z e = rw e
-
-pub outside : (z : ℤ) → qualityInRange z ≡ false → OutOfRange ≡ qualityOf z
-outside z e = rw e
-
--- what `quality_of` answered says of the quality
-pub was-outside : (z : ℤ) → qualityOf z ≡ OutOfRange → qualityInRange z ≡ false
-was-outside z e = by-test (qualityInRange z) (λ h. let x : InRange (aboveLowest z) ≡ OutOfRange = inside z h ∙ e in cc) (λ h. h)
-
-pub was-inside : (z : ℤ) (n : ℕ) → qualityOf z ≡ InRange n → (qualityInRange z ≡ true) × (n ≡ aboveLowest z)
-was-inside z n e =
-    by-test (qualityInRange z)
-    (λ h. let x : InRange (aboveLowest z) ≡ InRange n = inside z h ∙ e in (h, cc))
-    (λ h. let x : OutOfRange ≡ InRange n = outside z h ∙ e in (cc, cc))
 
 -- ---- rule 2
 module _ (p : PowerParameters) (u : ℕ) (fits : u ≤ numericHighest) where

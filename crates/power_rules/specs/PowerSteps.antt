@@ -6,11 +6,11 @@ use lib.Dec.{leb, eqb}
 use lib.IntN.{ℤ, pos, _-ℤ_, _*ℤ_}
 use lib.Signed.{ltZ, shrZ}
 use Rattle.readings.specs.Rounding.{nearestLower}
-use Rattle.power.specs.declared.PowerParameters.{PowerParameters}
-use Rattle.power.specs.declared.PowerRecord.{PowerRecord}
-use Rattle.power.specs.declared.Decoded.{Decoded}
-use Rattle.power.specs.declared.Decoded.the-variants.{Failed, Codes}
-use Rattle.power.specs.Constants.{sqtHighest, numericHighest, codeHighest, gainUpHighest, gainDnHighest, mestepHighest, sqtStep, codeStep, mestepStep, thousandthsHighest}
+use Rattle.power_rules.specs.declared.PowerParameters.{PowerParameters}
+use Rattle.power_rules.specs.declared.PowerRecord.{PowerRecord}
+use Rattle.power_rules.specs.declared.Decoded.{Decoded}
+use Rattle.power_rules.specs.declared.Decoded.the-variants.{Failed, Codes}
+use Rattle.power_rules.specs.Constants.{sqtHighest, numericHighest, codeHighest, gainUpHighest, gainDnHighest, mestepHighest, sqtStep, codeStep, mestepStep, thousandthsHighest}
 
 -- a code that is numeric: 0 to 60
 abbrev pub numeric : ℕ → Bool

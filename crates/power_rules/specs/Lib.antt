@@ -1,0 +1,7 @@
+-- Document 01, section Power steps. Start with `PowerSteps` and `Calls`; `Claims` says what is claimed beyond the contracts.
+pub mod Constants
+pub mod PowerSteps
+pub mod Calls
+pub mod Told
+pub mod Claims
+pub mod Code
