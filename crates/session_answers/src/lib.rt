@@ -1,8 +1,8 @@
 // Each answer of the library as the line that a session file's answers are written as, with its newline.
 ghost use mathlib.Core.Path.{_≡_};
-ghost use mathlib.Core.List.{_++_};
+ghost use mathlib.Core.List.{[], _∷_, _++_};
 ghost use Prim.Native.Nat.{_+_, _<_};
-ghost use lib.ListN.{length};
+ghost use lib.ListN.{length, take};
 ghost use Rattle.refusal.specs.Number.{numberOf};
 ghost use Rattle.refusal.specs.Told.{toldOutcome};
 ghost use Rattle.readings.specs.Told.{toldHundredths, toldShown};
@@ -10,6 +10,7 @@ ghost use Rattle.sweep_rules.specs.Told.{toldNext, toldNumbers};
 ghost use Rattle.choice_rules.specs.Told.{toldChoice};
 ghost use Rattle.watch_rules.specs.Told.{told, levels};
 ghost use Rattle.power_rules.specs.Told.{toldAnswer};
+ghost use Rattle.session_file.specs.Lines.{newline};
 ghost use Rattle.session_file.specs.Text.{room, said, decimalText};
 ghost use Rattle.session_answers.specs.Lines.{line, refusedText, hundredthsText, floatText, watchText};
 ghost use Rattle.session_answers.specs.Lines.{outcomeLine, hundredthsLine, floatLine, nextLine, countsLine, choiceLine, watchLine, powerLine, errorLine};
@@ -27,12 +28,19 @@ use session_file::with_signed;
 use sweep_rules::NextChannel;
 use sweep_rules::Numbers;
 
+// The text with a newline after it.
+fn ended(text: Text) -> Text
+    ensures { λ r. ⌜ said r ≡ take room (said text ++ (newline ∷ [])) ⌝ }
+{
+    with(text, b"\n")
+}
+
 // Words alone. Here and below, what is written finds room whatever the numbers are: none has more than 20 digits.
 fn only(words: &[u8]) -> Text
     requires { ⌜ length (now words) < room ⌝ }
     ensures { λ r. ⌜ said r ≡ line (now (words .entry)) ⌝ }
 {
-    with(with(nothing(), words), b"\n")
+    ended(with(nothing(), words))
 }
 
 // Words and a number.
@@ -40,7 +48,7 @@ fn one(head: &[u8], n: u64) -> Text
     requires { ⌜ length (now head) + 20 < room ⌝ }
     ensures { λ r. ⌜ said r ≡ line (now (head .entry) ++ decimalText n) ⌝ }
 {
-    with(with_decimal(with(nothing(), head), n), b"\n")
+    ended(with_decimal(with(nothing(), head), n))
 }
 
 // Words and a number, twice.
@@ -49,7 +57,7 @@ fn two(head: &[u8], n: u32, mid: &[u8], m: u32) -> Text
     ensures { λ r. ⌜ said r ≡ line (now (head .entry) ++ decimalText n ++ now (mid .entry) ++ decimalText m) ⌝ }
 {
     let first = with_decimal(with(nothing(), head), n as u64);
-    with(with_decimal(with(first, mid), m as u64), b"\n")
+    ended(with_decimal(with(first, mid), m as u64))
 }
 
 fn refused(why: Refusal) -> Text
@@ -61,13 +69,13 @@ fn refused(why: Refusal) -> Text
 fn hundredths(h: i32) -> Text
     ensures { λ r. ⌜ said r ≡ line (hundredthsText h) ⌝ }
 {
-    with(with_signed(with(nothing(), b"hundredths "), h), b"\n")
+    ended(with_signed(with(nothing(), b"hundredths "), h))
 }
 
 fn float(x: f32) -> Text
     ensures { λ r. ⌜ said r ≡ line (floatText x) ⌝ }
 {
-    with(with_bits(with(nothing(), b"float 0x"), x), b"\n")
+    ended(with_bits(with(nothing(), b"float 0x"), x))
 }
 
 // The number of levels kept for a channel, and their mean.
@@ -75,7 +83,7 @@ fn asked(count: u64, mean: i32) -> Text
     ensures { λ r. ⌜ said r ≡ line (watchText (levels count mean)) ⌝ }
 {
     let first = with_decimal(with(nothing(), b"count "), count);
-    with(with_signed(with(first, b" mean "), mean), b"\n")
+    ended(with_signed(with(first, b" mean "), mean))
 }
 
 // The answer of a call that gives no value.

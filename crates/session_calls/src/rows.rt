@@ -35,25 +35,28 @@ use session_words::Words;
 pub fn reading_call(line: &[u8], words: Words, otherwise: Call) -> Call
     ensures { λ r. ⌜ toldCall r [] ≡ firstOf (readingRows (words .count) (marked (now (line .entry)) words)) (toldCall otherwise []) ⌝ }
 {
-    if one(line, words, b"level", 2) {
+    let level: &[u8] = b"level";
+    let quality: &[u8] = b"quality";
+    let show: &[u8] = b"show";
+    if one(line, words, level, 2) {
         let NumWord::Value(x) = num_at(line, words, 1) else {
             return Call::Malformed;
         };
         return Call::Reading(ReadingCall::Level(x));
     }
-    if one(line, words, b"quality", 2) {
+    if one(line, words, quality, 2) {
         let NumWord::Value(x) = num_at(line, words, 1) else {
             return Call::Malformed;
         };
         return Call::Reading(ReadingCall::Quality(x));
     }
-    if two(line, words, b"show", b"level", 3) {
+    if two(line, words, show, level, 3) {
         let IntWord::Value(h) = int_at(line, words, 2) else {
             return Call::Malformed;
         };
         return Call::Reading(ReadingCall::ShowLevel(h));
     }
-    if two(line, words, b"show", b"quality", 3) {
+    if two(line, words, show, quality, 3) {
         let IntWord::Value(h) = int_at(line, words, 2) else {
             return Call::Malformed;
         };
@@ -94,22 +97,20 @@ fn set_outcome(line: &[u8], words: Words) -> Call
 pub fn sweep_call(line: &[u8], words: Words, otherwise: Call) -> Call
     ensures { λ r. ⌜ toldCall r [] ≡ firstOf (sweepRows (words .count) (marked (now (line .entry)) words)) (toldCall otherwise []) ⌝ }
 {
-    if two(line, words, b"sweep", b"fresh", 2) {
+    let sweep: &[u8] = b"sweep";
+    if two(line, words, sweep, b"fresh", 2) {
         return Call::Sweep(SweepCall::Fresh);
     }
-    if begins(line, words, b"sweep", b"file") {
+    if begins(line, words, sweep, b"file") {
         return sweep_file(line, words);
     }
-    if begins(line, words, b"sweep", b"rest")
-        & says(line, words, 2, b"missed")
-        & (words.count == 3)
-    {
+    if begins(line, words, sweep, b"rest") & says(line, words, 2, b"missed") & (words.count == 3) {
         return Call::Sweep(SweepCall::RestMissed);
     }
-    if two(line, words, b"sweep", b"next", 2) {
+    if two(line, words, sweep, b"next", 2) {
         return Call::Sweep(SweepCall::Next);
     }
-    if two(line, words, b"sweep", b"counts", 2) {
+    if two(line, words, sweep, b"counts", 2) {
         return Call::Sweep(SweepCall::Counts);
     }
     if one(line, words, b"outcome", 3) {
@@ -240,16 +241,17 @@ fn codes_step(line: &[u8], words: Words) -> Call
 pub fn power_call(line: &[u8], words: Words, otherwise: Call) -> Call
     ensures { λ r. ⌜ toldCall r [] ≡ firstOf (powerRows (words .count) (marked (now (line .entry)) words)) (toldCall otherwise []) ⌝ }
 {
+    let step: &[u8] = b"step";
     if one(line, words, b"params", 8) {
         return set_parameters(line, words);
     }
     if two(line, words, b"power", b"start", 2) {
         return Call::Power(PowerCall::Start);
     }
-    if one(line, words, b"step", 4) {
+    if one(line, words, step, 4) {
         return codes_step(line, words);
     }
-    if two(line, words, b"step", b"failed", 3) {
+    if two(line, words, step, b"failed", 3) {
         let IntWord::Value(sqi) = int_at(line, words, 2) else {
             return Call::Malformed;
         };

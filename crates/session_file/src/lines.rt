@@ -3,7 +3,7 @@ ghost use mathlib.Core.Path.{_≡_};
 ghost use mathlib.Core.List.{[]};
 ghost use Rattle.session_file.specs.Lines.{kept, keptOf, withMore};
 use crate::LONGEST;
-use crate::text::copy_to;
+use crate::copy_to;
 use session_words::least;
 
 // The first `length` bytes are the line so far. A greater length than the longest stands for any such: its first bytes alone are kept.

@@ -7,6 +7,7 @@ ghost use lib.Seq.{paste};
 ghost use lib.Ieee.{binary32, toBits};
 ghost use Rattle.session_file.specs.Text.{room, said, fitting, decimalText, signedText, bitsText};
 use crate::ROOM;
+use crate::copy_to;
 use session_words::least;
 
 const NAN_BITS: u32 = 0x7fc0_0000;
@@ -15,19 +16,6 @@ const NAN_BITS: u32 = 0x7fc0_0000;
 pub struct Text {
     pub bytes: [u8; ROOM],
     pub length: usize,
-}
-
-// Copies the first n bytes of a slice into another from a place on.
-pub fn copy_to(dst: &mut [u8], at: usize, src: &[u8], n: usize)
-    requires { ⌜ at + n ≤ length (now dst) ⌝ }
-    requires { ⌜ n ≤ length (now src) ⌝ }
-    ensures { λ _. ⌜ now (dst .exit) ≡ paste (now (dst .entry)) at (now (src .entry)) n ⌝ }
-{
-    let mut i = 0;
-    while i < n {
-        dst[at + i] = src[i];
-        i += 1;
-    }
 }
 
 // A text of no bytes.

@@ -1,6 +1,6 @@
 -- `replay::replay_block` is safe and ends: the buffer keeps its length, and each turn takes a byte at least.
 use Prim.Native.Nat.{_+_, _-_, _≤_, _<_}
-use mathlib.Core.Path.{_≡_, sym, ap, _∙_}
+use mathlib.Core.Path.{_≡_, refl, sym, ap, _∙_}
 use native.Mathlib.Omega.{arith}
 use lib.ListN.{length, take, drop, length-drop}
 use mir.Syntax.{w64}
@@ -14,7 +14,7 @@ use Rattle.replay.proofs.replay_block.Reads as reads
 use Rattle.replay.proofs.replay_block.Lts as lts
 
 abbrev Inv-loop : tie.InvT-loop
-Inv-loop block out₀ s₀ at₀ t8 out s at = (length out ≡ 65536) × (at ≤ length block)
+Inv-loop block out₀ s₀ at₀ t8 out s at = (length out ≡ length out₀) × (at ≤ length block)
 
 abbrev μ-loop : tie.MeasureT-loop
 μ-loop block out₀ s₀ at₀ t8 out s at = length block - at
@@ -23,7 +23,7 @@ large-buffer-requires : tie.Need-large-buffer-requires Inv-loop μ-loop
 large-buffer-requires c κs = search needs
 
 loop-holds : tie.Need-loop-holds Inv-loop μ-loop
-loop-holds c = (sym (c .large-buffer .ensures), omega arith)
+loop-holds c = (refl, omega arith)
 
 sub-answer-block : tie.Need-sub-answer-block Inv-loop μ-loop
 sub-answer-block c = c .before .loop .inv .1

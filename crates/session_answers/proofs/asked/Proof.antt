@@ -34,15 +34,12 @@ with-requires-2 c κs = search needs
 with-signed-requires : tie.Need-with-signed-requires
 with-signed-requires c κs = search needs
 
-slice-aggregate-with-3 : tie.Need-slice-aggregate-with-3
-slice-aggregate-with-3 c = search needs
-
-with-requires-3 : tie.Need-with-requires-3
-with-requires-3 c κs = search needs
+ended-requires : tie.Need-ended-requires
+ended-requires c κs = search needs
 
 returns : tie.Need-returns
 returns c =
-    let d = c .before .before in
+    let d = c .before in
     let v = d .before in
     let u = v .before .before in
     let w = u .before in
@@ -50,7 +47,7 @@ returns c =
     let z = toZ w32 (ofZ w32 (s .args .mean)) in
     line-of-4 (bytesOf "count ") (decimalText (s .args .count)) (bytesOf " mean ") (signedText z)
     (w .before .before .nothing .ensures) (w .with .ensures) (u .with-decimal .ensures)
-    (v .with2 .ensures) (d .with-signed .ensures) (c .with3 .ensures)
+    (v .with2 .ensures) (d .with-signed .ensures) (c .ended .ensures)
     (omega (arith, decimal-most (s .args .count), signed-most z))
     ∙ ap (λ h. line (watchText (levels (s .args .count) h))) (toZ-ofZ w32 (s .args .mean) (s .fits .mean))
 
@@ -65,6 +62,5 @@ asked-spec =
     slice-aggregate-with-2
     with-requires-2
     with-signed-requires
-    slice-aggregate-with-3
-    with-requires-3
+    ended-requires
     returns)

@@ -19,18 +19,15 @@ with-requires c κs = search needs
 with-bits-requires : tie.Need-with-bits-requires
 with-bits-requires c κs = search needs
 
-slice-aggregate-with-2 : tie.Need-slice-aggregate-with-2
-slice-aggregate-with-2 c = search needs
-
-with-requires-2 : tie.Need-with-requires-2
-with-requires-2 c κs = search needs
+ended-requires : tie.Need-ended-requires
+ended-requires c κs = search needs
 
 returns : tie.Need-returns
 returns c =
-    let d = c .before .before in
+    let d = c .before in
     let w = d .before in
     let s = w .before .before .before in
-    line-of-2 (bytesOf "float 0x") (bitsText (s .args .x)) (w .before .before .nothing .ensures) (w .with .ensures) (d .with-bits .ensures) (c .with2 .ensures)
+    line-of-2 (bytesOf "float 0x") (bitsText (s .args .x)) (w .before .before .nothing .ensures) (w .with .ensures) (d .with-bits .ensures) (c .ended .ensures)
     (omega (arith, bits-length (s .args .x)))
 
 pub float-spec : {M : Type 1} → statement M
@@ -41,6 +38,5 @@ float-spec =
     slice-aggregate-with
     with-requires
     with-bits-requires
-    slice-aggregate-with-2
-    with-requires-2
+    ended-requires
     returns)

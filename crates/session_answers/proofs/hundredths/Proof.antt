@@ -24,19 +24,16 @@ with-requires c κs = search needs
 with-signed-requires : tie.Need-with-signed-requires
 with-signed-requires c κs = search needs
 
-slice-aggregate-with-2 : tie.Need-slice-aggregate-with-2
-slice-aggregate-with-2 c = search needs
-
-with-requires-2 : tie.Need-with-requires-2
-with-requires-2 c κs = search needs
+ended-requires : tie.Need-ended-requires
+ended-requires c κs = search needs
 
 returns : tie.Need-returns
 returns c =
-    let d = c .before .before in
+    let d = c .before in
     let w = d .before in
     let s = w .before .before .before in
     let z = toZ w32 (ofZ w32 (s .args .h)) in
-    line-of-2 (bytesOf "hundredths ") (signedText z) (w .before .before .nothing .ensures) (w .with .ensures) (d .with-signed .ensures) (c .with2 .ensures)
+    line-of-2 (bytesOf "hundredths ") (signedText z) (w .before .before .nothing .ensures) (w .with .ensures) (d .with-signed .ensures) (c .ended .ensures)
     (omega (arith, signed-most z))
     ∙ ap (λ h. line (hundredthsText h)) (toZ-ofZ w32 (s .args .h) (s .fits .h))
 
@@ -48,6 +45,5 @@ hundredths-spec =
     slice-aggregate-with
     with-requires
     with-signed-requires
-    slice-aggregate-with-2
-    with-requires-2
+    ended-requires
     returns)

@@ -15,18 +15,15 @@ with-requires c κs = search needs
 with-decimal-requires : tie.Need-with-decimal-requires
 with-decimal-requires c κs = search needs
 
-slice-aggregate-with : tie.Need-slice-aggregate-with
-slice-aggregate-with c = search needs
-
-with-requires-2 : tie.Need-with-requires-2
-with-requires-2 c κs = search needs
+ended-requires : tie.Need-ended-requires
+ended-requires c κs = search needs
 
 returns : tie.Need-returns
 returns c =
-    let d = c .before .before in
+    let d = c .before in
     let w = d .before in
     let s = w .before .before .before in
-    line-of-2 (s .args .head .now) (decimalText (s .args .n)) (w .before .nothing .ensures) (w .with .ensures) (d .with-decimal .ensures) (c .with2 .ensures)
+    line-of-2 (s .args .head .now) (decimalText (s .args .n)) (w .before .nothing .ensures) (w .with .ensures) (d .with-decimal .ensures) (c .ended .ensures)
     (omega (arith, decimal-most (s .args .n)))
 
 pub one-spec : {M : Type 1} → statement M
@@ -36,6 +33,5 @@ one-spec =
     nothing-requires
     with-requires
     with-decimal-requires
-    slice-aggregate-with
-    with-requires-2
+    ended-requires
     returns)

@@ -10,19 +10,16 @@ nothing-requires c κs = search needs
 with-requires : tie.Need-with-requires
 with-requires c κs = search needs
 
-slice-aggregate-with : tie.Need-slice-aggregate-with
-slice-aggregate-with c = search needs
-
-with-requires-2 : tie.Need-with-requires-2
-with-requires-2 c κs = search needs
+ended-requires : tie.Need-ended-requires
+ended-requires c κs = search needs
 
 returns : tie.Need-returns
 returns c =
-    let w = c .before .before in
+    let w = c .before in
     let s = w .before .before .before in
-    line-of-1 (s .args .words .now) (w .before .nothing .ensures) (w .with .ensures) (c .with2 .ensures) (s .pre)
+    line-of-1 (s .args .words .now) (w .before .nothing .ensures) (w .with .ensures) (c .ended .ensures) (s .pre)
 
 pub only-spec : {M : Type 1} → statement M
 only-spec =
     tie.close
-    (tie.spec nothing-requires with-requires slice-aggregate-with with-requires-2 returns)
+    (tie.spec nothing-requires with-requires ended-requires returns)

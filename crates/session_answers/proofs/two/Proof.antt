@@ -21,20 +21,17 @@ with-requires-2 c κs = search needs
 with-decimal-requires-2 : tie.Need-with-decimal-requires-2
 with-decimal-requires-2 c κs = search needs
 
-slice-aggregate-with : tie.Need-slice-aggregate-with
-slice-aggregate-with c = search needs
-
-with-requires-3 : tie.Need-with-requires-3
-with-requires-3 c κs = search needs
+ended-requires : tie.Need-ended-requires
+ended-requires c κs = search needs
 
 returns : tie.Need-returns
 returns c =
-    let d = c .before .before in
+    let d = c .before in
     let w = d .before .before .before in
     let s = w .before .before .before .before in
     line-of-4 (s .args .head .now) (decimalText (s .args .n)) (s .args .mid .now) (decimalText (s .args .m))
     (w .before .nothing .ensures) (w .with .ensures) (d .before .before .with-decimal .ensures)
-    (d .before .with2 .ensures) (d .with-decimal2 .ensures) (c .with3 .ensures)
+    (d .before .with2 .ensures) (d .with-decimal2 .ensures) (c .ended .ensures)
     (omega (arith, decimal-most (s .args .n), decimal-most (s .args .m)))
 
 pub two-spec : {M : Type 1} → statement M
@@ -46,6 +43,5 @@ two-spec =
     with-decimal-requires
     with-requires-2
     with-decimal-requires-2
-    slice-aggregate-with
-    with-requires-3
+    ended-requires
     returns)

@@ -1,9 +1,10 @@
 -- `session::reading::answer` meets its contract: by the laws of a line that has ended (`Lines`), and the call that it writes down.
-use Prim.Native.Nat.{min}
+use Prim.Native.Nat.{_-_, min}
 use mathlib.Core.Path.{_≡_, sym, ap, _∙_}
 use native.Mathlib.Omega.{arith}
 use lib.ListN.{length, take}
 use lib.Seq.{length-take-le}
+use Rattle.session_words.specs.Words.{mostWords}
 use Rattle.session_words.proofs.Lists.{take-least}
 use Rattle.session_file.specs.Lines.{longest}
 use Rattle.session_calls.specs.Asked.{toldCall}
@@ -64,8 +65,8 @@ call-of-requires c κs = search needs
 least-requires : tie.Need-least-requires
 least-requires c κs = search needs
 
--- the list has room for the most channels, so that the lesser number takes all that it has
-numbers-room : (c : tie.After-call-of) → length (c .call-of .result .list .numbers) ≡ 8
+-- the list has room for the most channels, one to each word after `list`, so that the lesser number takes all that it has
+numbers-room : (c : tie.After-call-of) → length (c .call-of .result .list .numbers) ≡ mostWords - 1
 numbers-room c = search needs
 
 array-share-prefix-numbers : tie.Need-array-share-prefix-numbers

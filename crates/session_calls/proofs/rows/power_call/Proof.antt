@@ -23,16 +23,16 @@ abbrev from : tie.Start → ℕ → Asked
 from s k = firstOf (drop k (powerRows (s .args .words .count) (marked (s .args .line .now) (s .args .words)))) (toldCall (s .args .otherwise) [])
 
 abbrev start1 : tie.Else1 → tie.Start
-start1 c = c .before .before .before .before
+start1 c = c .before .before .before .before .before
 
 abbrev start2 : tie.Else2 → tie.Start
 start2 c = start1 (c .before .before .before .before)
 
 abbrev start3 : tie.Else3 → tie.Start
-start3 c = start2 (c .before .before .before)
+start3 c = start2 (c .before .before)
 
 abbrev start4 : tie.Else4 → tie.Start
-start4 c = start3 (c .before .before .before .before)
+start4 c = start3 (c .before .before .before)
 
 past1 : (c : tie.Else1) {z : Asked} → z ≡ from (start1 c) 1 → z ≡ from (start1 c) 0
 unfolding firstOf powerRows
@@ -44,11 +44,14 @@ past2 c p = past1 (c .before .before .before .before) (later _ (c .before .two .
 
 past3 : (c : tie.Else3) {z : Asked} → z ≡ from (start3 c) 3 → z ≡ from (start3 c) 0
 unfolding firstOf powerRows
-past3 c p = past2 (c .before .before .before) (later _ (c .before .one2 .ensures) (c .if3 .left) p)
+past3 c p = past2 (c .before .before) (later _ (c .before .one2 .ensures) (c .if3 .left) p)
 
 past4 : (c : tie.Else4) {z : Asked} → z ≡ from (start4 c) 4 → z ≡ from (start4 c) 0
 unfolding firstOf powerRows
-past4 c p = past3 (c .before .before .before .before) (later _ (c .before .two2 .ensures) (c .if4 .left) p)
+past4 c p = past3 (c .before .before .before) (later _ (c .before .two2 .ensures) (c .if4 .left) p)
+
+slice-aggregate-step : tie.Need-slice-aggregate-step
+slice-aggregate-step c = search needs
 
 slice-aggregate-one : tie.Need-slice-aggregate-one
 slice-aggregate-one c = search needs
@@ -78,9 +81,6 @@ returns-2 : tie.Need-returns-2
 unfolding firstOf powerRows
 returns-2 c = past1 (c .before .before .before .before) (here _ (c .before .two .ensures) (c .if2 .taken) refl)
 
-slice-aggregate-one-2 : tie.Need-slice-aggregate-one-2
-slice-aggregate-one-2 c = search needs
-
 one-requires-2 : tie.Need-one-requires-2
 one-requires-2 c κs = search needs
 
@@ -91,13 +91,10 @@ returns-3 : tie.Need-returns-3
 unfolding firstOf powerRows
 returns-3 c =
     let r = c .before in
-    past2 (r .before .before .before) (here _ (r .before .one2 .ensures) (r .if3 .taken) (c .codes-step .ensures))
+    past2 (r .before .before) (here _ (r .before .one2 .ensures) (r .if3 .taken) (c .codes-step .ensures))
 
 slice-aggregate-two-3 : tie.Need-slice-aggregate-two-3
 slice-aggregate-two-3 c = search needs
-
-slice-aggregate-two-4 : tie.Need-slice-aggregate-two-4
-slice-aggregate-two-4 c = search needs
 
 two-requires-2 : tie.Need-two-requires-2
 two-requires-2 c κs = search needs
@@ -115,15 +112,15 @@ returns-4 : tie.Need-returns-4
 unfolding firstOf powerRows
 returns-4 c =
     let r = c .before .before .before in
-    past3 (r .before .before .before .before) (here _ (r .before .two2 .ensures) (r .if4 .taken) (numbered toldInt _ (c .before .before .int-at .ensures) (c .enum-told .given .1) refl))
+    past3 (r .before .before .before) (here _ (r .before .two2 .ensures) (r .if4 .taken) (numbered toldInt _ (c .before .before .int-at .ensures) (c .enum-told .given .1) refl))
 
 returns-5 : tie.Need-returns-5
 unfolding firstOf powerRows
 returns-5 c =
     let r = c .before .before .before .before in
-    let z = c .before .sqi .given .0 .0 in
-    let back : toZ w32 (ofZ w32 z) ≡ z = search needs in
-    past3 (r .before .before .before .before) (here _ (r .before .two2 .ensures) (r .if4 .taken) (numbered toldInt _ (c .before .before .before .int-at .ensures) (c .before .sqi .given .1) (ap (λ z. power (Step Failed z)) back)))
+    let sqi = c .before .sqi .given .0 .0 in
+    let back : toZ w32 (ofZ w32 sqi) ≡ sqi = search needs in
+    past3 (r .before .before .before) (here _ (r .before .two2 .ensures) (r .if4 .taken) (numbered toldInt _ (c .before .before .before .int-at .ensures) (c .before .sqi .given .1) (ap (λ sqi. power (Step Failed sqi)) back)))
 
 returns-6 : tie.Need-returns-6
 unfolding firstOf powerRows
@@ -133,6 +130,7 @@ pub power-call-spec : {M : Type 1} → statement M
 power-call-spec =
     tie.close
     (tie.spec
+    slice-aggregate-step
     slice-aggregate-one
     one-requires
     set-parameters-requires
@@ -141,12 +139,10 @@ power-call-spec =
     slice-aggregate-two-2
     two-requires
     returns-2
-    slice-aggregate-one-2
     one-requires-2
     codes-step-requires
     returns-3
     slice-aggregate-two-3
-    slice-aggregate-two-4
     two-requires-2
     int-at-requires
     enum-known-sqi

@@ -1,5 +1,7 @@
 -- `session_state::state::start` meets its contract: each part as its own call or zeros make it.
 use lib.ListN.{replicate}
+use Rattle.sweep_rules.specs.Map.{channels}
+use Rattle.choice_rules.specs.Choose.{notRead}
 use Rattle.power_rules.specs.PowerSteps.{allZeros}
 use Rattle.session_state.specs.State.{begins}
 use borrow.Author.Needs.{needs}
@@ -19,7 +21,7 @@ unfolding begins
 returns c i =
     record {
       sweep = c .before .fresh .ensures i;
-      outcomes = replicate 1088 0;
+      outcomes = replicate channels notRead;
       watch = c .fresh2 .ensures i;
       power = allZeros;
       parameters = record { sqt = 0; paninit = 0; panmin = 0; panmax = 0; gainup = 0; gaindn = 0; mestep = 0 };

@@ -1,4 +1,4 @@
--- `session_file::text::copy_to` meets its contract. The invariant: so far the first `i` bytes are copied.
+-- `session_file::copy_to` meets its contract. The invariant: so far the first `i` bytes are copied.
 use lib.Seq.{paste, paste-zero, paste-suc}
 use lib.ListN.{length, getD, set, length-set}
 use native.Mathlib.Omega.{arith}
@@ -6,10 +6,10 @@ use native.Mathlib.Nat.{le-antisymm}
 use native.Mathlib.Numerals.{add-one}
 use mathlib.Core.Path.{_≡_, refl, sym, ap, _∙_}
 use Prim.Native.Nat.{_+_, _-_, _≤_, _<_}
-use Rattle.session_file.proofs.text.copy_to.Statement.{statement}
-use Rattle.session_file.proofs.text.copy_to.Tie as tie
-use Rattle.session_file.proofs.text.copy_to.Reads as reads
-use Rattle.session_file.proofs.text.copy_to.Lts as lts
+use Rattle.session_file.proofs.copy_to.Statement.{statement}
+use Rattle.session_file.proofs.copy_to.Tie as tie
+use Rattle.session_file.proofs.copy_to.Reads as reads
+use Rattle.session_file.proofs.copy_to.Lts as lts
 
 abbrev Inv-loop : tie.InvT-loop
 Inv-loop dst₀ at src n i₀ dst i = (i ≤ n) × (dst ≡ paste dst₀ at src i) × (length dst ≡ length dst₀)
