@@ -56,19 +56,19 @@ err a b p = go (compare (a % b * 2) b) (leb→le (a % b * 2) b) (nleb→lt (a % 
 
 -- ---- h / 100, rounded, in units of 2 ^ -149
 -- how many digits are dropped, what is kept, and the units
-abbrev dropped : ℕ → ℕ
+abbrev pub dropped : ℕ → ℕ
 dropped n = size (n * 2 ^ 149 / 100) - 24
 
-abbrev keeps : ℕ → ℕ
+abbrev pub keeps : ℕ → ℕ
 keeps n = closest (n * 2 ^ 149) (100 * 2 ^ dropped n)
 
-abbrev grid : ℕ → ℕ
+abbrev pub grid : ℕ → ℕ
 grid n = keeps n * 2 ^ dropped n
 
 few : (z : ℕ) → z ≤ 165 → z - 24 ≤ 141
 few z h = omega arith
 
-dropped-le : (n : ℕ) → n < 65536 → dropped n ≤ 141
+pub dropped-le : (n : ℕ) → n < 65536 → dropped n ≤ 141
 dropped-le n h =
     few (size (n * 2 ^ 149 / 100))
     (size-le (n * 2 ^ 149 / 100) 165 (lt-of-le-of-lt (div-le-self (n * 2 ^ 149) 100) (mul-lt-mul-of-pos-right {m = n} {n = 65536} {k = 2 ^ 149} h (pow-pos 149))))
@@ -80,7 +80,7 @@ step-lt n h = lt-of-le-of-lt (mul-le-mul-left 100 (pow-mono {i = dropped n} {j =
 errs : (n : ℕ) → Err (n * 2 ^ 149) (100 * 2 ^ dropped n) (keeps n)
 errs n = err (n * 2 ^ 149) (100 * 2 ^ dropped n) (mul-pos {m = 100} {n = 2 ^ dropped n} (lit< tt) (pow-pos (dropped n)))
 
-regroup : (k x : ℕ) → k * (100 * x) ≡ 100 * (k * x)
+pub regroup : (k x : ℕ) → k * (100 * x) ≡ 100 * (k * x)
 regroup k x = mul-left-comm k 100 x
 
 -- D stands for 2 ^ 149 and N for n * 2 ^ 149, as `omega` leaves such numerals out
@@ -110,7 +110,7 @@ module _ (n c D u K j : ℕ) (p : 0 < u) (e : Err (n * D) u K) (f : j * u ≡ c 
       no : c * 100 * D ≤ n * D → suc K * u ≤ j * u → ⊥
       no a b = omega (arith, suc-mul K u)
 
-whole-step : (k : ℕ) → k ≤ 149 → 2 ^ (149 - k) * 2 ^ k ≡ 2 ^ 149
+pub whole-step : (k : ℕ) → k ≤ 149 → 2 ^ (149 - k) * 2 ^ k ≡ 2 ^ 149
 whole-step k h = sym (pow-add 2 (149 - k) k) ∙ ap (λ (i : ℕ). 2 ^ i) (sub-back k h)
   where
     sub-back : (k : ℕ) → k ≤ 149 → 149 - k + k ≡ 149
@@ -148,7 +148,7 @@ grid-small : (n : ℕ) → n < 65536 → grid n < 2 ^ 277
 grid-small n h =
     lt-of-le-of-lt (grid-le n 656 h (omega arith)) (lit< tt)
 
-round-value : (s : Bool) (n : ℕ) → n < 65536 → HasValue (round binary32 s n 100) s (grid n) (2 ^ 149)
+pub round-value : (s : Bool) (n : ℕ) → n < 65536 → HasValue (round binary32 s n 100) s (grid n) (2 ^ 149)
 round-value s n h =
     subst (λ (x : Float). HasValue x s (grid n) (2 ^ 149)) (sym (round-is binary32 s n 100)) (units-val binary32 s (keeps n) (dropped n) (grid-small n h))
 

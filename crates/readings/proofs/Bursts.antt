@@ -103,3 +103,25 @@ burst-is e f g = ap₂ bothOf f g ∙ ap burstOf (sym e)
 
 pub in-range-too : (b : Burst) {t : Told BurstResult} → t ≡ burstOf b → (t ≡ burstOf b) × InRange t
 in-range-too b e = (e, subst InRange (sym e) (burst-in-range b))
+
+-- ---- a burst is refused with 1 and no other number
+converted-1 : (low high : ℤ) (x : Float) (n : ℕ) → converted low high x ≡ refused n → n ≡ 1
+unfolding converted
+converted-1 low high x n e = go (within low high x) e
+  where
+    go : (b : Bool) → whereInRange b (hundredthsOf x) ≡ refused n → n ≡ 1
+    go true q = absurd (gives-refused q)
+    go false q = cc
+
+both-1 : (s t : Told ℤ) (n : ℕ) → ((m : ℕ) → s ≡ refused m → m ≡ 1) → ((m : ℕ) → t ≡ refused m → m ≡ 1) → bothOf s t ≡ refused n → n ≡ 1
+both-1 (gives a) (gives b) n f g e = absurd (gives-refused e)
+both-1 (gives a) (refused m) n f g e = let q : m ≡ n = cc in sym q ∙ g m refl
+both-1 (refused m) t n f g e = let q : m ≡ n = cc in sym q ∙ f m refl
+
+pub burst-1 : (b : Burst) (n : ℕ) → burstOf b ≡ refused n → n ≡ 1
+burst-1 (Heard r) n e =
+    both-1 (converted levelLow levelHigh (r .level)) (converted qualityLow qualityHigh (r .quality)) n
+    (converted-1 levelLow levelHigh (r .level))
+    (converted-1 qualityLow qualityHigh (r .quality))
+    e
+burst-1 Missed n e = absurd (gives-refused e)

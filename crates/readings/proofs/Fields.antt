@@ -21,7 +21,7 @@ use Rattle.readings.specs.Code.{Near, inUnits, small}
 use Rattle.readings.proofs.Near.{near-is, near-same}
 
 -- ---- any fraction that the float equals serves
-times : (s : Bool) (w : ℕ) → pos 100 *ℤ signed s w ≡ signed s (100 * w)
+pub times : (s : Bool) (w : ℕ) → pos 100 *ℤ signed s w ≡ signed s (100 * w)
 times false w = refl
 times true zero = refl
 times true (suc w) = refl

@@ -5,4 +5,5 @@ pub mod Range
 pub mod Back
 pub mod Bursts
 pub mod Rule
+pub mod NearestFloat
 pub mod Claims

@@ -19,16 +19,16 @@ use Rattle.readings.proofs.Near.{near-is, near-size, sizeOf, no-multipl
 use Rattle.readings.proofs.Range.{isNeg, signed-is, scaled, neg-neg, pos-neg}
 
 -- ---- the distance of two whole numbers by signs and sizes
-abbrev gap : ℕ → ℕ → ℕ
+abbrev pub gap : ℕ → ℕ → ℕ
 gap a b = (a - b) + (b - a)
 
-abbrev away : Bool → Bool → ℕ → ℕ → ℕ
+abbrev pub away : Bool → Bool → ℕ → ℕ → ℕ
 away false false a b = gap a b
 away false true a b = a + b
 away true false a b = a + b
 away true true a b = gap a b
 
-byCase : {P : Type 0} (b : Bool) → (b ≡ true → P) → (b ≡ false → P) → P
+pub byCase : {P : Type 0} (b : Bool) → (b ≡ true → P) → (b ≡ false → P) → P
 byCase true f g = f refl
 byCase false f g = g refl
 
@@ -49,11 +49,11 @@ apart true false (suc a) (suc b) = omega arith
 apart true true zero b = ap (λ (z : ℤ). natAbs (pos 0 +ℤ z)) (negℤ-negℤ (pos b)) ∙ omega arith
 apart true true (suc a) b = ap (λ (z : ℤ). natAbs (negsuc a +ℤ z)) (negℤ-negℤ (pos b)) ∙ sub-gap b (suc a) ∙ omega arith
 
-away-is : (s t : Bool) (n d j : ℕ) → distance (signed s n) d (signed t j) ≡ away s t n (j * d)
+pub away-is : (s t : Bool) (n d j : ℕ) → distance (signed s n) d (signed t j) ≡ away s t n (j * d)
 away-is s t n d j = ap (λ (z : ℤ). natAbs (signed s n -ℤ z)) (scaled t j d) ∙ apart s t n (j * d)
 
 -- ---- the number is the nearest, and the lower of two
-steps-apart : (a b d : ℕ) → a < b → a * d + d ≤ b * d
+pub steps-apart : (a b d : ℕ) → a < b → a * d + d ≤ b * d
 steps-apart a b d h = omega (arith, suc-mul a d, mul-le-mul-right {m = suc a} {n = b} d h)
 
 module _ (n d k : ℕ) (p : 0 < d) where

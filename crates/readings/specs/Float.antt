@@ -5,7 +5,7 @@ use Rattle.refusal.specs.Told.{Told}
 use Rattle.readings.specs.Ranges.{levelLow, levelHigh, qualityLow, qualityHigh, inRange}
 use Rattle.readings.specs.Hundredths.{whereInRange}
 
--- the float h divided by 100, rounded once: `div` rounds the exact quotient to the nearest single float
+-- the float h divided by 100, rounded once: `div` rounds the exact quotient to the nearest single float, as `Claims.ShownRule` says in the paper's words
 unfoldable pub floatOf : ℤ → Float
 floatOf h = div binary32 (ofInt binary32 h) (ofInt binary32 (pos 100))
 

@@ -9,7 +9,7 @@ ghost use Rattle.readings.specs.Burst.{burstOf, InRange};
 ghost use Rattle.readings.specs.Told.{toldHundredths, toldShown, toldBurst};
 ghost use Rattle.readings.specs.Back.{levelBack, qualityBack};
 ghost use Rattle.readings.specs.Code.{Near, inUnits, small};
-ghost use Rattle.readings.specs.Claims.{RoundingRule, HundredthsRule, ReadBack, BurstInRange, AnswersDiffer};
+ghost use Rattle.readings.specs.Claims.{RoundingRule, HundredthsRule, ShownRule, ReadBack, BurstInRange, AnswersDiffer};
 use refusal::Refusal;
 
 // What the modem measures in a burst that it hears: a level in dBm and a quality in dB.
@@ -209,6 +209,7 @@ pub fn burst_to_hundredths(b: Burst) -> BurstHundredths
 pub fn claimed()
     ensures rounding { λ _. ⌜ RoundingRule ⌝ }
     ensures hundredths { λ _. ⌜ HundredthsRule ⌝ }
+    ensures shown { λ _. ⌜ ShownRule ⌝ }
     ensures back { λ _. ⌜ ReadBack ⌝ }
     ensures burst { λ _. ⌜ BurstInRange ⌝ }
     ensures told { λ _. ⌜ AnswersDiffer ⌝ }
