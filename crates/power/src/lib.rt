@@ -8,7 +8,8 @@ ghost use Rattle.power_rules.specs.Constants.{numericHighest, thousandthsHighes
 ghost use Rattle.power_rules.specs.PowerSteps.{parametersInRange, codesInRange, wellFormed, freshWith, panUse, panBasicAfter, parSaveAfter, increaseAfter, recordAfter};
 ghost use Rattle.power_rules.specs.Calls.{started, tested, stepped};
 ghost use Rattle.power_rules.specs.Told.{toldAnswer};
-ghost use Rattle.power_rules.specs.Code.{Usable, Formed, qualitySpan, gainAt, heldAt, nearestCode, wholeCodes, parAt, panAt};
+ghost use Rattle.power_rules.specs.Refusals.{InRange, WellFormed};
+ghost use Rattle.power_rules.specs.Code.{qualitySpan, gainAt, heldAt, nearestCode, wholeCodes, parAt, panAt};
 ghost use Rattle.power.specs.Code.{qualityOf};
 pub use power_rules::Answer;
 pub use power_rules::Decoded;
@@ -128,7 +129,7 @@ fn gain(p: PowerParameters, target: u32, quality: u32) -> u32
 
 // Rule 2: T brought into 0 to 24,000.
 fn held_thousandths(p: PowerParameters, panuse: u32, quality: u32) -> u32
-    requires { ⌜ Usable p × (panuse ≤ numericHighest) × (quality ≤ qualitySpan) ⌝ }
+    requires { ⌜ InRange p × (panuse ≤ numericHighest) × (quality ≤ qualitySpan) ⌝ }
     ensures { λ t. ⌜ t ≡ heldAt p panuse quality ⌝ }
 {
     let target = SQT_STEP * p.sqt + ZERO_QUALITY;
@@ -183,7 +184,7 @@ fn par_save_after(r: PowerRecord, d: Decoded) -> u32
 
 // Rule 3: the next increase.
 fn increase_after(p: PowerParameters, r: PowerRecord, d: Decoded) -> u32
-    requires { ⌜ Usable p × Formed r ⌝ }
+    requires { ⌜ InRange p × WellFormed r ⌝ }
     ensures { λ x. ⌜ x ≡ increaseAfter p r d ⌝ }
 {
     match d {
@@ -202,7 +203,7 @@ fn whole_codes(t: u32) -> u32
 
 // Rule 4: the PAN to send, of the record after the step. Below 0 it is PANmin.
 fn pan_to_send(p: PowerParameters, r: PowerRecord) -> u32
-    requires { ⌜ Usable p × Formed r ⌝ }
+    requires { ⌜ InRange p × WellFormed r ⌝ }
     ensures { λ x. ⌜ x ≡ panAt p r ⌝ }
 {
     let base = CODE_STEP * r.panbasic;
@@ -239,7 +240,7 @@ fn refused(why: Refusal, r: PowerRecord) -> Stepped
 
 // Rules 1 and 3: the record after a step.
 fn record_after(p: PowerParameters, r: PowerRecord, d: Decoded) -> PowerRecord
-    requires { ⌜ Usable p × Formed r ⌝ }
+    requires { ⌜ InRange p × WellFormed r ⌝ }
     ensures { λ x. ⌜ x ≡ recordAfter p r d ⌝ }
 {
     PowerRecord {
@@ -252,7 +253,7 @@ fn record_after(p: PowerParameters, r: PowerRecord, d: Decoded) -> PowerRecord
 
 // An accepted step, at a quality counted from the lowest. PANuse is the PANlast after the step.
 fn send(p: PowerParameters, r: PowerRecord, d: Decoded, quality: u32) -> Stepped
-    requires { ⌜ Usable p × Formed r × (quality ≤ qualitySpan) ⌝ }
+    requires { ⌜ InRange p × WellFormed r × (quality ≤ qualitySpan) ⌝ }
     ensures { λ s. ⌜ (s .power ≡ recordAfter p r d) × (s .answer ≡ Send (parAt p (panUse r d) quality) (panAt p (recordAfter p r d))) ⌝ }
 {
     let power = record_after(p, r, d);

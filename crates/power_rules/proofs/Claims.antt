@@ -15,9 +15,9 @@ use Rattle.power_rules.specs.declared.Answer.{Answer}
 use Rattle.power_rules.specs.declared.Answer.the-variants.{Send, Refused}
 use Rattle.power_rules.specs.Constants.{numericHighest}
 use Rattle.power_rules.specs.PowerSteps.{parametersInRange, wellFormed, freshWith, panUse, recordAfter, parToSend, panToSend}
-use Rattle.power_rules.specs.Calls.{HandedBack, ToSend, started, sending}
+use Rattle.power_rules.specs.Calls.{HandedBack, ToSend, started, tested, sending}
 use Rattle.power_rules.specs.Told.{toldAnswer}
-use Rattle.power_rules.specs.Claims.{StartsWellFormed, StaysWellFormed, RefusedKeepsRecord, WithinLimits, SendsWithinLimits, RoundsDown, AnswersDiffer}
+use Rattle.power_rules.specs.Claims.{StartsWellFormed, StaysWellFormed, RefusedKeepsRecord, TestKeepsRecord, WithinLimits, SendsWithinLimits, RoundsDown, AnswersDiffer}
 use Rattle.power_rules.specs.Code.{aboveLowest, parAt, panAt}
 use Rattle.power_rules.proofs.Whole.{both, by-test}
 use Rattle.power_rules.proofs.Ranges.{usable, formed, well-formed, formed-after, use-below}
@@ -43,6 +43,10 @@ staysWellFormed p r d sqi f = step-cases p r d sqi (λ (h : HandedBack ToSend). 
 pub refusedKeepsRecord : RefusedKeepsRecord
 unfolding sending
 refusedKeepsRecord p r d sqi n = step-cases p r d sqi (λ (h : HandedBack ToSend). h .answer ≡ refused n → h .power ≡ r) (λ why e. refl) (λ _ _ _ e. absurd (gives-refused e))
+
+pub testKeepsRecord : TestKeepsRecord
+unfolding tested
+testKeepsRecord r = by-test (wellFormed r) (λ e. rw e) (λ e. rw e)
 
 -- ---- the codes to send
 pos-le : {a b : ℕ} → a ≤ b → pos a ≤ℤ pos b

@@ -4,3 +4,5 @@ pub mod Ranges
 pub mod Rules
 pub mod Steps
 pub mod Claims
+pub mod Refusals
+pub mod StepRule

@@ -12,10 +12,11 @@ use Rattle.power_rules.specs.declared.Decoded.{Decoded}
 use Rattle.power_rules.specs.declared.Decoded.the-variants.{Failed, Codes}
 use Rattle.power_rules.specs.Constants.{numericHighest, gainUpHighest, mestepStep, thousandthsHighest}
 use Rattle.power_rules.specs.PowerSteps.{numeric, parametersInRange, wellFormed, panUse, panBasicAfter, parSaveAfter, increaseAfter, recordAfter}
-use Rattle.power_rules.specs.Code.{Usable, Formed, qualitySpan, gainAt}
+use Rattle.power_rules.specs.Refusals.{InRange, WellFormed}
+use Rattle.power_rules.specs.Code.{qualitySpan, gainAt}
 use Rattle.power_rules.proofs.Whole.{both, and-true}
 
-pub usable : (p : PowerParameters) → parametersInRange p ≡ true → Usable p
+pub usable : (p : PowerParameters) → parametersInRange p ≡ true → InRange p
 usable p e =
     let mestep = both _ _ e in
     let gaindn = both _ _ (mestep .0) in
@@ -24,9 +25,9 @@ usable p e =
     let panmax = both _ _ (limits .0) in
     let panmin = both _ _ (panmax .0) in
     let paninit = both _ _ (panmin .0) in
-    record { sqt = leb-true _ _ (paninit .0); paninit = leb-true _ _ (paninit .1); limits = leb-true _ _ (limits .1); gainup = leb-true _ _ (gainup .1); gaindn = leb-true _ _ (gaindn .1); mestep = leb-true _ _ (mestep .1) }
+    record { sqt = leb-true _ _ (paninit .0); paninit = leb-true _ _ (paninit .1); panmin = leb-true _ _ (panmin .1); panmax = leb-true _ _ (panmax .1); limits = leb-true _ _ (limits .1); gainup = leb-true _ _ (gainup .1); gaindn = leb-true _ _ (gaindn .1); mestep = leb-true _ _ (mestep .1) }
 
-pub formed : (r : PowerRecord) → wellFormed r ≡ true → Formed r
+pub formed : (r : PowerRecord) → wellFormed r ≡ true → WellFormed r
 formed r e =
     let multiple = both _ _ e in
     let increase = both _ _ (multiple .0) in
@@ -34,7 +35,7 @@ formed r e =
     let parsave = both _ _ (panbasic .0) in
     record { panlast = leb-true _ _ (parsave .0); parsave = leb-true _ _ (parsave .1); panbasic = leb-true _ _ (panbasic .1); increase = leb-true _ _ (increase .1); multiple = eqb-true _ _ (multiple .1) }
 
-pub well-formed : (r : PowerRecord) → Formed r → wellFormed r ≡ true
+pub well-formed : (r : PowerRecord) → WellFormed r → wellFormed r ≡ true
 well-formed r f = and-true _ _ (and-true _ _ (and-true _ _ (and-true _ _ (le-leb _ _ (f .panlast)) (le-leb _ _ (f .parsave))) (le-leb _ _ (f .panbasic))) (le-leb _ _ (f .increase))) (eq-eqb _ _ (f .multiple))
 
 pub is-numeric : {code : ℕ} → code ≤ numericHighest → numeric code ≡ true
@@ -51,21 +52,21 @@ cond-below : (t : Bool) (a b k : ℕ) → (t ≡ true → a ≤ k) → b ≤ k �
 cond-below true a b k h l = h refl
 cond-below false a b k h l = l
 
-pub gain-small : (p : PowerParameters) (target n : ℕ) → Usable p → gainAt p target n ≤ gainUpHighest
+pub gain-small : (p : PowerParameters) (target n : ℕ) → InRange p → gainAt p target n ≤ gainUpHighest
 gain-small p target n u = cond-below (ltb target n) (p .gaindn) (p .gainup) _ (λ e. omega (arith, u .gaindn)) (u .gainup)
 
 -- ---- the record after a step
-pub use-below : (r : PowerRecord) (d : Decoded) → Formed r → panUse r d ≤ numericHighest
+pub use-below : (r : PowerRecord) (d : Decoded) → WellFormed r → panUse r d ≤ numericHighest
 unfolding panUse
 use-below r Failed f = f .panlast
 use-below r (Codes pan par) f = cond-below _ pan (r .panlast) _ (leb-true pan _) (f .panlast)
 
-basic-below : (r : PowerRecord) (d : Decoded) → Formed r → panBasicAfter r d ≤ numericHighest
+basic-below : (r : PowerRecord) (d : Decoded) → WellFormed r → panBasicAfter r d ≤ numericHighest
 unfolding panBasicAfter
 basic-below r Failed f = f .panbasic
 basic-below r (Codes pan par) f = cond-below (numeric par) (min par (r .parsave)) (r .panbasic) _ (λ e. omega (arith, f .parsave)) (f .panbasic)
 
-save-below : (r : PowerRecord) (d : Decoded) → Formed r → parSaveAfter r d ≤ numericHighest
+save-below : (r : PowerRecord) (d : Decoded) → WellFormed r → parSaveAfter r d ≤ numericHighest
 unfolding parSaveAfter
 save-below r Failed f = f .parsave
 save-below r (Codes pan par) f = cond-below _ par (r .parsave) _ (leb-true par _) (f .parsave)
@@ -75,7 +76,7 @@ unfolding increaseAfter
 increase-in p r Failed e = (omega arith, omega arith)
 increase-in p r (Codes pan par) e = (omega arith, refl)
 
-pub formed-after : (p : PowerParameters) (r : PowerRecord) (d : Decoded) → Formed r → Formed (recordAfter p r d)
+pub formed-after : (p : PowerParameters) (r : PowerRecord) (d : Decoded) → WellFormed r → WellFormed (recordAfter p r d)
 formed-after p r d f =
     let i = increase-in p r d (f .multiple) in
     record { panlast = use-below r d f; parsave = save-below r d f; panbasic = basic-below r d f; increase = i .0; multiple = i .1 }

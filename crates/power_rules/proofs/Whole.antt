@@ -12,7 +12,7 @@ use Rattle.power_rules.specs.Constants.{codeStep}
 use Rattle.power_rules.specs.PowerSteps.{broughtInto}
 
 -- ---- tests
-never : {X : Type 0} → false ≡ true → X
+pub never : {X : Type 0} → false ≡ true → X
 never e = absurd (subst T (sym e) tt)
 
 pub both : (t u : Bool) → (t && u) ≡ true → (t ≡ true) × (u ≡ true)

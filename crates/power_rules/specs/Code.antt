@@ -1,14 +1,13 @@
 -- The power steps in natural numbers, as the code works them out: what the private functions of `power` return. `proofs/Rules.antt` shows
 -- that these are the numbers of `PowerSteps`. No reader of the public contracts needs this file.
-use mathlib.Core.Path.{_≡_}
 use mathlib.Core.Bool.{cond}
-use Prim.Native.Nat.{ℕ, _+_, _-_, _≤_, _*_, _/_, _%_, min, max}
+use Prim.Native.Nat.{ℕ, _+_, _-_, _*_, _/_, min, max}
 use lib.Dec.{ltb}
 use lib.IntN.{ℤ, _-ℤ_, natAbs}
 use Rattle.readings.specs.Ranges.{qualityLowest, qualityHighest}
 use Rattle.power_rules.specs.declared.PowerParameters.{PowerParameters}
 use Rattle.power_rules.specs.declared.PowerRecord.{PowerRecord}
-use Rattle.power_rules.specs.Constants.{sqtHighest, numericHighest, gainUpHighest, gainDnHighest, mestepHighest, sqtStep, codeStep, mestepStep, thousandthsHighest}
+use Rattle.power_rules.specs.Constants.{sqtStep, codeStep, thousandthsHighest}
 
 -- 0 dB and the highest quality, counted from the lowest
 abbrev pub zeroQuality : ℕ
@@ -20,22 +19,6 @@ qualitySpan = natAbs (qualityHighest -ℤ qualityLowest)
 -- a quality, counted from the lowest
 abbrev pub aboveLowest : ℤ → ℕ
 aboveLowest q = natAbs (q -ℤ qualityLowest)
-
--- what the rules need of parameters that are in range, and of a record that is well formed
-pub record Usable (p : PowerParameters) : Type 0 where
-  pub sqt : p .sqt ≤ sqtHighest
-  pub paninit : p .paninit ≤ numericHighest
-  pub limits : p .panmin ≤ p .panmax
-  pub gainup : p .gainup ≤ gainUpHighest
-  pub gaindn : p .gaindn ≤ gainDnHighest
-  pub mestep : p .mestep ≤ mestepHighest
-
-pub record Formed (r : PowerRecord) : Type 0 where
-  pub panlast : r .panlast ≤ numericHighest
-  pub parsave : r .parsave ≤ numericHighest
-  pub panbasic : r .panbasic ≤ numericHighest
-  pub increase : r .increase ≤ thousandthsHighest
-  pub multiple : r .increase % mestepStep ≡ 0
 
 -- SQT, counted as a quality is
 abbrev pub targetAt : PowerParameters → ℕ

@@ -1,7 +1,8 @@
--- Document 01, section Power steps. Start with `PowerSteps` and `Calls`; `Claims` says what is claimed beyond the contracts.
+-- Document 01, section Power steps. Start with `PowerSteps` and `Calls`; `Claims` says what is claimed beyond the contracts, in the paper's words with `Refusals`.
 pub mod Constants
 pub mod PowerSteps
 pub mod Calls
 pub mod Told
+pub mod Refusals
 pub mod Claims
 pub mod Code

@@ -1,6 +1,6 @@
 // Power steps: the parameters, the record that a terminal keeps from one power control message to the next, and what the calls answer: the
 // two codes to send. Document 01, section Power steps. The rules and what is claimed of them stand in specs/; the calls stand in the crate `power`.
-ghost use Rattle.power_rules.specs.Claims.{StartsWellFormed, StaysWellFormed, RefusedKeepsRecord, SendsWithinLimits, RoundsDown, AnswersDiffer};
+ghost use Rattle.power_rules.specs.Claims.{StartsWellFormed, StaysWellFormed, RefusedKeepsRecord, TestKeepsRecord, SendsWithinLimits, RoundsDown, RefusalRule, StartRule, StepRule, AnswersDiffer};
 use refusal::Outcome;
 use refusal::Refusal;
 
@@ -58,7 +58,11 @@ pub fn claimed()
     ensures starts { λ _. ⌜ StartsWellFormed ⌝ }
     ensures stays { λ _. ⌜ StaysWellFormed ⌝ }
     ensures refused { λ _. ⌜ RefusedKeepsRecord ⌝ }
+    ensures tested { λ _. ⌜ TestKeepsRecord ⌝ }
     ensures limits { λ _. ⌜ SendsWithinLimits ⌝ }
     ensures rounding { λ _. ⌜ RoundsDown ⌝ }
+    ensures refusals { λ _. ⌜ RefusalRule ⌝ }
+    ensures start { λ _. ⌜ StartRule ⌝ }
+    ensures step { λ _. ⌜ StepRule ⌝ }
     ensures told { λ _. ⌜ AnswersDiffer ⌝ }
 {}

@@ -4,12 +4,13 @@ use Rattle.power_rules.proofs.Ranges.{formed-after}
 use Rattle.power_rules.proofs.Rules.{held-small}
 use Rattle.power_rules.specs.declared.PowerRecord.{PowerRecord}
 use Rattle.power_rules.specs.declared.Answer.the-variants.{Send}
-use Rattle.power_rules.specs.Code.{Formed, heldAt, nearestCode, panAt}
+use Rattle.power_rules.specs.Refusals.{WellFormed}
+use Rattle.power_rules.specs.Code.{heldAt, nearestCode, panAt}
 use borrow.Author.Needs.{needs}
 use Rattle.power.proofs.send.Statement.{statement}
 use Rattle.power.proofs.send.Tie as tie
 
-after-formed : (c : tie.After-record-after) → Formed (c .record-after .result)
+after-formed : (c : tie.After-record-after) → WellFormed (c .record-after .result)
 after-formed c = rw (c .record-after .ensures) (formed-after _ _ _ (c .before .pre .1))
 
 record-after-requires : tie.Need-record-after-requires
