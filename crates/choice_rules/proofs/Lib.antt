@@ -5,6 +5,7 @@ pub mod Ranked
 pub mod Endings
 pub mod Answers
 pub mod Claims
+pub mod Refusals
 pub mod KeyOrder
 pub mod Depths
 pub mod Gathered

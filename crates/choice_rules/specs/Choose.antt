@@ -15,15 +15,12 @@ use Rattle.sweep_rules.specs.Filing.{provided}
 use Rattle.sweep_rules.specs.declared.Sweep.{Sweep}
 use Rattle.choice_rules.specs.Order.{searchOrder, nearPart}
 
--- the outcome bytes; 3 is access class not allowed, 4 other network
+-- the outcome bytes; 2 is barred, 3 access class not allowed, 4 other network
 abbrev pub notRead : ℕ
 notRead = 0
 
 abbrev pub suitable : ℕ
 suitable = 1
-
-abbrev pub barred : ℕ
-barred = 2
 
 abbrev pub unreadable : ℕ
 unreadable = 5

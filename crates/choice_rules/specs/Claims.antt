@@ -5,16 +5,48 @@ use mathlib.Core.Bool.{Bool, true}
 use mathlib.Core.Logic.{_↔_, _⊎_}
 use mathlib.Core.List.{List, List·Memᴰ, IsPrefix}
 use lib.ListN.{getD, length}
-use lib.IntN.{ℤ, _-ℤ_}
+use lib.IntN.{ℤ, pos, _-ℤ_}
 use lib.Signed.{_≤ℤ_, _<ℤ_}
-use Rattle.refusal.specs.Told.{gives}
+use Rattle.refusal.specs.Told.{refused, gives}
 use Rattle.refusal.specs.Claims.{OneToOne}
 use Rattle.sweep_rules.specs.Map.{channels}
-use Rattle.sweep_rules.specs.Record.{heard, levelAt}
+use Rattle.sweep_rules.specs.Record.{visited, heard, levelAt}
+use Rattle.sweep_rules.specs.Claims.{WellFormed}
 use Rattle.sweep_rules.specs.declared.Sweep.{Sweep}
 use Rattle.choice_rules.specs.Order.{searchOrder, nearPart}
-use Rattle.choice_rules.specs.Choose.{notRead, suitable, barred, highestOutcome, outcomeAt, outcomesFine, Chosen, camp, read, noBeam, choosing}
+use Rattle.choice_rules.specs.Choose.{outcomeAt, outcomesFine, Chosen, camp, read, noBeam, choosing}
 use Rattle.choice_rules.specs.Told.{toldChoice}
+
+-- ---- the refusals in document 01's words
+
+-- "a lent string of 1,088 outcome bytes": each 0 to 5, those of channels not heard too
+pub record OutcomesInRange (o : List ℕ) : Type 0 where
+  pub long : length o ≡ 1088
+  pub bytes : (c : ℕ) → c < 1088 → outcomeAt o c ≤ 5
+
+-- "a margin of 0 to 6,000 hundredths"
+pub record MarginInRange (m : ℤ) : Type 0 where
+  pub lowest : pos 0 ≤ℤ m
+  pub highest : m ≤ℤ pos 6000
+
+-- every channel of 2 to 1,086 is visited
+abbrev pub Finished : Sweep → Type 0
+Finished s = (c : ℕ) → 2 ≤ c → c ≤ 1086 → visited s c ≡ true
+
+-- the table: a choice is refused with this number. "Several at once: 9, 8, 7, .. 4, ..": a later number only where no earlier one is given
+pub data Refuses (s : Sweep) (m : ℤ) (o : List ℕ) : ℕ → Type 0 where
+  -- 9: "a record not well formed"
+  unformed : ¬ (WellFormed s) → Refuses s m o 9
+  -- 8: "outcome string not 1,088 long, or a byte above 5"
+  outcomesFaulty : WellFormed s → ¬ (OutcomesInRange o) → Refuses s m o 8
+  -- 7: "a margin .. out of range"
+  marginOutOfRange : WellFormed s → OutcomesInRange o → ¬ (MarginInRange m) → Refuses s m o 7
+  -- 4: "a choice over an unfinished sweep"
+  unfinished : WellFormed s → OutcomesInRange o → MarginInRange m → ¬ (Finished s) → Refuses s m o 4
+
+-- a choice is refused with a number exactly when the table says so
+abbrev pub RefusalRule : Type 0
+RefusalRule = (s : Sweep) (m : ℤ) (o : List ℕ) (n : ℕ) → (choosing s m o ≡ refused n) ↔ Refuses s m o n
 
 -- ---- the search order, over the channels that pass a test
 
@@ -61,7 +93,7 @@ NearPartRule = (s : Sweep) (m : ℤ) → NearRule (heard s) s m
 
 -- read, and not suitable: an outcome of 2 to 5
 abbrev pub Unsuitable : List ℕ → ℕ → Type 0
-Unsuitable o c = (barred ≤ outcomeAt o c) × (outcomeAt o c ≤ highestOutcome)
+Unsuitable o c = (2 ≤ outcomeAt o c) × (outcomeAt o c ≤ 5)
 
 -- c is the first near channel with an outcome of 0 or 1, and n its place in the search order, counted from 1
 pub record Named (s : Sweep) (m : ℤ) (o : List ℕ) (c n : ℕ) : Type 0 where
@@ -70,8 +102,8 @@ pub record Named (s : Sweep) (m : ℤ) (o : List ℕ) (c n : ℕ) : Type 0 where
   pub first : (i : ℕ) → suc i < n → Unsuitable o (getD (searchOrder (heard s) s) i 0)
 
 pub record AnswerRule (s : Sweep) (m : ℤ) (o : List ℕ) : Type 0 where
-  pub camps : (c n : ℕ) → choosing s m o ≡ gives (camp c n) → Named s m o c n × (outcomeAt o c ≡ suitable)
-  pub reads : (c n : ℕ) → choosing s m o ≡ gives (read c n) → Named s m o c n × (outcomeAt o c ≡ notRead)
+  pub camps : (c n : ℕ) → choosing s m o ≡ gives (camp c n) → Named s m o c n × (outcomeAt o c ≡ 1)
+  pub reads : (c n : ℕ) → choosing s m o ≡ gives (read c n) → Named s m o c n × (outcomeAt o c ≡ 0)
   -- no beam: the number tried is the length of the near part, 0 if nothing was heard
   pub tried : (n : ℕ) → choosing s m o ≡ gives (noBeam n) → n ≡ length (nearPart (heard s) s m)
   pub silent : (a : Chosen) → choosing s m o ≡ gives a → ((c : ℕ) → Passes (heard s) c → ⊥) → a ≡ noBeam 0

@@ -1,6 +1,6 @@
 // The choice of a beam: what it answers. Document 01, section The choice. The rules and what is claimed of them stand in specs/; the call
 // stands in the crate `choice`.
-ghost use Rattle.choice_rules.specs.Claims.{SearchOrderRule, NearPartRule, TriedIsPlace, NoBeamExactly, UnheardBytes, AnswersDiffer};
+ghost use Rattle.choice_rules.specs.Claims.{RefusalRule, SearchOrderRule, NearPartRule, TriedIsPlace, NoBeamExactly, UnheardBytes, AnswersDiffer};
 use refusal::Refusal;
 use sweep_rules::Sweep;
 
@@ -20,6 +20,7 @@ pub struct SweepChoice {
 
 // Nothing to run: its contract is all that is claimed of the choice beyond the calls, so that the check asks for the proof of each.
 pub fn claimed()
+    ensures refusals { λ _. ⌜ RefusalRule ⌝ }
     ensures order { λ _. ⌜ SearchOrderRule ⌝ }
     ensures near { λ _. ⌜ NearPartRule ⌝ }
     ensures tried { λ _. ⌜ TriedIsPlace ⌝ }

@@ -8,3 +8,4 @@ pub mod Lowest
 pub mod Filed
 pub mod Filings
 pub mod Claims
+pub mod Refusals

@@ -1,5 +1,5 @@
 -- What is claimed of the sweep beyond each call's contract; proved in `proofs/Claims.antt` under the same names.
-use Prim.Native.Nat.{ℕ, _+_, _<_, _^_}
+use Prim.Native.Nat.{ℕ, _+_, _≤_, _<_, _^_}
 use mathlib.Core.Path.{_≡_}
 use mathlib.Core.Bool.{Bool, true, false, _||_, cond}
 use mathlib.Core.Logic.{_↔_}
@@ -15,10 +15,12 @@ use Rattle.readings.specs.declared.Burst.the-variants.{Heard, Missed}
 use Rattle.readings.specs.declared.Reading.{Reading}
 use Rattle.readings.specs.Ranges.{levelInRange}
 use Rattle.readings.specs.Hundredths.{levelOf}
+use Rattle.readings.specs.Burst.{burstOf}
 use Rattle.sweep_rules.specs.Map.{channels, words, wordBits, isSet, withBit, setBits}
 use Rattle.sweep_rules.specs.Record.{swept, sweptChannels, visited, heard, levelAt, freshSweep, finished, wellFormed}
-use Rattle.sweep_rules.specs.Filing.{filing, leaves}
-use Rattle.sweep_rules.specs.Next.{channel, done, nextOf}
+use Rattle.sweep_rules.specs.Filing.{filing, leaves, checking}
+use Rattle.sweep_rules.specs.Next.{channel, done, nextOf, nextTold}
+use Rattle.sweep_rules.specs.Counts.{Counts, countsTold}
 use Rattle.sweep_rules.specs.Told.{toldNext, toldNumbers}
 use Rattle.sweep_rules.specs.declared.Sweep.{Sweep}
 
@@ -50,6 +52,37 @@ pub record WellFormed (s : Sweep) : Type 0 where
 -- the test of a record holds exactly when they do
 abbrev pub WellFormedRule : Type 0
 WellFormedRule = (s : Sweep) → (wellFormed s ≡ true) ↔ WellFormed s
+
+-- ---- the refusals in document 01's words
+
+-- the table for a filing: it is refused with this number. "Several at once: 9, .. 2, .. 3, .. 1.": a later number only where no earlier one is
+-- given
+pub data Refuses (s : Sweep) (c : ℕ) (b : Burst) : ℕ → Type 0 where
+  -- 9: "a record not well formed"
+  unformed : ¬ (WellFormed s) → Refuses s c b 9
+  -- 2: "a swept channel outside 2 to 1,086"
+  channelBelow : WellFormed s → c < 2 → Refuses s c b 2
+  channelAbove : WellFormed s → 1086 < c → Refuses s c b 2
+  -- 3: "a channel already visited in this sweep"
+  visitedBefore : WellFormed s → 2 ≤ c → c ≤ 1086 → visited s c ≡ true → Refuses s c b 3
+  -- 1: "a level or quality, as a float .., is outside its range", by the readings' rule
+  burstOutOfRange : WellFormed s → 2 ≤ c → c ≤ 1086 → visited s c ≡ false → burstOf b ≡ refused 1 → Refuses s c b 1
+
+-- each call is refused with a number exactly when the table says so; the calls that only read a record, with 9
+pub record RefusalRule : Type 0 where
+  pub files : (s : Sweep) (c : ℕ) (b : Burst) (n : ℕ) → (filing s c b ≡ refused n) ↔ Refuses s c b n
+  pub next : (s : Sweep) (n : ℕ) → (nextTold s ≡ refused n) ↔ ((n ≡ 9) × (¬ (WellFormed s)))
+  pub numbers : (s : Sweep) (n : ℕ) → (countsTold s ≡ refused n) ↔ ((n ≡ 9) × (¬ (WellFormed s)))
+  pub tests : (s : Sweep) (n : ℕ) → (checking s ≡ refused n) ↔ ((n ≡ 9) × (¬ (WellFormed s)))
+
+-- what those calls answer otherwise: the next channel, and the counts of set bits in the two maps
+pub record AnswersRule (s : Sweep) : Type 0 where
+  pub next : WellFormed s → nextTold s ≡ gives (nextOf s)
+  pub numberVisited : (n : Counts) → countsTold s ≡ gives n → n .visited ≡ setBits (s .visited)
+  pub numberHeard : (n : Counts) → countsTold s ≡ gives n → n .heard ≡ setBits (s .heard)
+
+abbrev pub AnswerRule : Type 0
+AnswerRule = (s : Sweep) → AnswersRule s
 
 -- ---- the next channel, and a finished sweep
 

@@ -1,6 +1,6 @@
 // The band sweep: its record, its channels and what its calls answer. Document 01, section The band sweep.
 // The rules and what is claimed of them stand in specs/; the calls stand in the crate `sweep`.
-ghost use Rattle.sweep_rules.specs.Claims.{OnesAreChannels, OneBitSet, WellFormedRule, NextLowest, FiledFromFresh, AnswersDiffer};
+ghost use Rattle.sweep_rules.specs.Claims.{OnesAreChannels, OneBitSet, WellFormedRule, RefusalRule, AnswerRule, NextLowest, FiledFromFresh, AnswersDiffer};
 use refusal::Outcome;
 use refusal::Refusal;
 
@@ -54,6 +54,8 @@ pub fn claimed()
     ensures ones { λ _. ⌜ OnesAreChannels ⌝ }
     ensures bits { λ _. ⌜ OneBitSet ⌝ }
     ensures formed { λ _. ⌜ WellFormedRule ⌝ }
+    ensures refusals { λ _. ⌜ RefusalRule ⌝ }
+    ensures answers { λ _. ⌜ AnswerRule ⌝ }
     ensures next { λ _. ⌜ NextLowest ⌝ }
     ensures filed { λ _. ⌜ FiledFromFresh ⌝ }
     ensures told { λ _. ⌜ AnswersDiffer ⌝ }
