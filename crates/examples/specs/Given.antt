@@ -10,7 +10,6 @@ use Rattle.readings.specs.declared.Burst.the-variants.{Heard}
 use Rattle.sweep_rules.specs.Map.{channels, withBit}
 use Rattle.sweep_rules.specs.Record.{freshSweep}
 use Rattle.sweep_rules.specs.declared.Sweep.{Sweep}
-use Rattle.choice_rules.specs.Choose.{notRead, suitable, barred}
 use Rattle.watch_rules.specs.Told.{Call, start, newList, file, Given}
 use Rattle.watch_rules.specs.Record.{fresh, called, afterFrom}
 use Rattle.power_rules.specs.declared.PowerParameters.{PowerParameters}
@@ -49,18 +48,14 @@ threeHeard =
       heard = withBit (withBit (withBit (freshSweep .heard) 100) 200) 300;
     }
 
--- "nothing read"
+-- "nothing read": byte 0 is not read yet
 unfoldable pub nothingRead : List ℕ
-nothingRead = replicate channels notRead
+nothingRead = replicate channels 0
 
--- other network
-abbrev pub otherNetwork : ℕ
-otherNetwork = 4
-
--- "100 barred, 200 other network, 300 suitable"
+-- "100 barred, 200 other network, 300 suitable": bytes 2, 4 and 1
 unfoldable pub threeRead : List ℕ
 unfolding nothingRead
-threeRead = set (set (set nothingRead 100 barred) 200 otherNetwork) 300 suitable
+threeRead = set (set (set nothingRead 100 2) 200 4) 300 1
 
 -- ---- the watch
 
@@ -85,6 +80,10 @@ twoChannels n = start 100 ∷ newList (200 ∷ []) ∷ (replicate n (file 100 (h
 -- "SQT 85, both gains 10"; "PANinit 30, limits 0 and 60, Mestep 3"
 abbrev pub parameters : PowerParameters
 parameters = record { sqt = 85; paninit = 30; panmin = 0; panmax = 60; gainup = 10; gaindn = 10; mestep = 3 }
+
+-- the same with a GainUp of 31, so that the two gains differ
+abbrev pub unequalGains : PowerParameters
+unequalGains = record { sqt = 85; paninit = 30; panmin = 0; panmax = 60; gainup = 31; gaindn = 10; mestep = 3 }
 
 -- the record at the start
 abbrev pub atStart : PowerRecord

@@ -1,5 +1,5 @@
 -- Document 01, section Checked examples: one table, and the one statement that every row of it holds. All lines marked P are in it, each under the
--- paper's words; so are those that are not, which are run besides.
+-- paper's words; so are those that are not, which are run besides, and at the end three rows of our own.
 use mathlib.Core.Path.{_≡_}
 use mathlib.Core.List.{List, [], _∷_}
 use lib.IntN.{pos}
@@ -9,7 +9,7 @@ use Rattle.choice_rules.specs.Choose.{camp, read, noBeam, choosing}
 use Rattle.watch_rules.specs.Told.{ask, verdict, levels, wait, stay, moveTo}
 use Rattle.power_rules.specs.declared.Decoded.the-variants.{Failed, Codes}
 use Rattle.power_rules.specs.Calls.{stepped}
-use Rattle.examples.specs.Given.{minus, single, nothingHeard, threeHeard, nothingRead, threeRead, answerAfter, twoLevels, twoChannels, parameters, atStart, parOf, pansSent}
+use Rattle.examples.specs.Given.{minus, single, nothingHeard, threeHeard, nothingRead, threeRead, answerAfter, twoLevels, twoChannels, parameters, unequalGains, atStart, parOf, pansSent}
 
 -- a row: what the definitions give, and what the paper says
 infixl 70 _comesTo_
@@ -50,6 +50,12 @@ table =
     -- "P PANinit 30, limits 0 and 60, Mestep 3; PAR 20, 40, 40, failed, failed: PAN sent 20, 20, 40, 38, 37."
     ∷ pansSent atStart (Codes 63 20 ∷ Codes 63 40 ∷ Codes 63 40 ∷ Failed ∷ Failed ∷ [])
     comesTo (gives (pos 20) ∷ gives (pos 20) ∷ gives (pos 40) ∷ gives (pos 38) ∷ gives (pos 37) ∷ [])
+    -- our own, by the paper's rules. A failed message leaves PANbasic, the lesser of 40 and 20: PAR 20, 40, failed: PAN sent 20, 20, 18
+    ∷ pansSent atStart (Codes 63 20 ∷ Codes 63 40 ∷ Failed ∷ []) comesTo (gives (pos 20) ∷ gives (pos 20) ∷ gives (pos 18) ∷ [])
+    -- GainDn where the quality is above SQT: GainUp 31, GainDn 10, SQT 85, PANuse 20: SQI 950 gives PAR 22
+    ∷ parOf (stepped unequalGains atStart (Codes 20 63) (pos 950) .answer) comesTo gives (pos 22)
+    -- a decoded PAR that is not numeric ends the increase: PANinit 30, failed, PAR 63: PAN sent 28, 30
+    ∷ pansSent atStart (Failed ∷ Codes 63 63 ∷ []) comesTo (gives (pos 28) ∷ gives (pos 30) ∷ [])
     ∷ []
 
 -- both sides of a row are the same

@@ -15,7 +15,7 @@ use Rattle.examples.proofs.examples.Tie as tie
 
 returns : tie.Need-returns
 unfolding ofBits ofFields converted within hundredthsOf nearestLower depth full counts best target answer wellFormed called started sending stepped broughtInto panUse gain thousandths parToSend panBasicAfter parSaveAfter increaseAfter panToSend
-returns c = (refl, (refl, (refl, (refl, (refl, (refl, (reads, (camps, (narrow, (silent, (refl, (refl, (refl, (refl, (refl, (refl, (refl, tt)))))))))))))))))
+returns c = (refl, (refl, (refl, (refl, (refl, (refl, (reads, (camps, (narrow, (silent, (refl, (refl, (refl, (refl, (refl, (refl, (refl, (refl, (refl, (refl, tt))))))))))))))))))))
 
 pub examples-spec : {M : Type 1} → statement M
 examples-spec = tie.close (tie.spec returns)
