@@ -84,3 +84,9 @@ module _ (test : ℕ → Bool) (f : ℕ → ℤ) where
       byCase (test n)
       (λ e. rw e (taken n (best test f n) e (best-is n)))
       (λ e. rw e (skipped n (best test f n) e (best-is n)))
+
+-- where none passes the test, none is found
+pub best-none : (test : ℕ → Bool) (f : ℕ → ℤ) → ((c : ℕ) → test c ≡ false) → (n : ℕ) → best test f n ≡ none
+unfolding best
+best-none test f e zero = refl
+best-none test f e (suc n) = rw (e n) (best-none test f e n)

@@ -89,6 +89,11 @@ pub granted-answer : (v : View) (k : Call) → refusal v k ≡ none → answer v
 unfolding answer
 granted-answer v k e = ap (λ (o : Option Refusal). orRefused o (granted v k)) e
 
+-- or, where one refuses, its number
+pub refused-answer : (v : View) (k : Call) (r : Refusal) → refusal v k ≡ some r → answer v k ≡ refusedFor r
+unfolding answer
+refused-answer v k r e = ap (λ (o : Option Refusal). orRefused o (granted v k)) e
+
 -- ---- what a well-formed record is
 
 pub formed-tracks : (w : Watch) → wellFormed w ≡ true → tracksFine (w .watched) (w .tracks) ≡ true

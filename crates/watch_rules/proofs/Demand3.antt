@@ -2,27 +2,29 @@
 -- value, and all that is compared follows from it. The plain watch sees only the set of a list, so the order within lists is nothing.
 use Prim.Native.Nat.{ℕ}
 use mathlib.Core.Path.{_≡_, refl, sym, ap, ap₂, _∙_, subst}
-use mathlib.Core.Bool.{Bool, cond, _&&_, _||_}
+use mathlib.Core.Bool.{Bool, false, cond, _&&_, _||_}
 use mathlib.Core.List.{List, [], _∷_, map}
 use mathlib.Core.Option.{Option, none, some}
 use lib.Dec.{eqb}
 use lib.ListN.{length, take, length-map}
 use Rattle.refusal.specs.declared.Refusal.{Refusal}
 use Rattle.refusal.specs.declared.Refusal.the-variants as why
+use Rattle.refusal.specs.Told.{Told}
 use Rattle.watch_rules.specs.declared.Watch.{Watch}
 use Rattle.watch_rules.specs.Lists.{is, padTo}
 use Rattle.watch_rules.specs.Limits.{depth, room}
-use Rattle.watch_rules.specs.Told.{Call, Called, accepted}
-use Rattle.watch_rules.specs.Rules.{View, serves, refusal, refuseUnless, answer, orRefused, unlessRefused, mean}
+use Rattle.watch_rules.specs.Told.{Call, ask, verdict, Called, Given, accepted}
+use Rattle.watch_rules.specs.Rules.{View, watched, serves, refusal, refuseUnless, answer, orRefused, unlessRefused, full, counts, target}
 use Rattle.watch_rules.specs.Plain.{Plain, idle, underWatch, seen, change, next, answers, after}
 use Rattle.watch_rules.specs.Rows.{Row, levelsOf, shown, changedRows}
 use Rattle.watch_rules.specs.Record.{rows, trackOf, unused, recordOf, fresh, called, answersFrom, afterFrom}
-use Rattle.watch_rules.specs.Claims.{partIn, Compared, countOf, ofRecord, ofPlain, Alike, ButForOrder, same, lists, AllButForOrder, end, more, AsPlain, PlaceFree, Demand3}
-use Rattle.watch_rules.proofs.Laws.{byCase, take-padTo, last-none, view-path}
+use Rattle.watch_rules.specs.Claims.{meanTold, movesTo, Compared, countOf, ofRecord, ofPlain, Alike, ButForOrder, same, lists, AllButForOrder, end, more, AsPlain, PlaceFree, Demand3}
+use Rattle.watch_rules.proofs.Laws.{byCase, take-padTo, last-none, view-path, levels-none}
 use Rattle.watch_rules.proofs.Encode.{rows-record}
-use Rattle.watch_rules.proofs.Calls.{called-record}
+use Rattle.watch_rules.proofs.Calls.{called-record, first-watched}
 use Rattle.watch_rules.proofs.Steps.{Step, step}
 use Rattle.watch_rules.proofs.Reorder.{mem-reordered, sound-reordered}
+use Rattle.watch_rules.proofs.Answers.{mean-told, moved-told}
 
 -- ---- in step through every call
 
@@ -62,11 +64,14 @@ module _ (rs : List Row) (p : Plain) (k : Call) (s : Step rs p) where
 linked-next : {w : Watch} {p : Plain} (k : Call) → Linked w p → Linked (called w k .watch) (next p k)
 linked-next {p = p} k l = subst (λ (x : Watch). Linked (called x k .watch) (next p k)) (sym (l .made)) (linked-step (l .held) p k (l .kept))
 
+answered-linked : {w : Watch} {p : Plain} (k : Call) → Linked w p → called w k .answer ≡ answer (seen p) k
+answered-linked {p = p} k l = ap (λ (x : Watch). called x k .answer) (l .made) ∙ answered-step (l .held) p k (l .kept)
+
 answered-all : (ks : List Call) (w : Watch) (p : Plain) → Linked w p → answersFrom w ks ≡ answers p ks
 answered-all [] w p l = refl
 answered-all (k ∷ ks) w p l =
     ap₂ _∷_
-    (ap (λ (x : Watch). called x k .answer) (l .made) ∙ answered-step (l .held) p k (l .kept))
+    (answered-linked k l)
     (answered-all ks (called w k .watch) (next p k) (linked-next k l))
 
 linked-all : (ks : List Call) (w : Watch) (p : Plain) → Linked w p → Linked (afterFrom w ks) (after p ks)
@@ -86,9 +91,7 @@ linked ks = linked-all ks fresh idle linked-fresh
 
 -- the answer to one more call
 pub answered-next : (ks : List Call) (k : Call) → called (afterFrom fresh ks) k .answer ≡ answer (seen (after idle ks)) k
-answered-next ks k =
-    let l = linked ks in
-    ap (λ (x : Watch). called x k .answer) (l .made) ∙ answered-step (l .held) (after idle ks) k (l .kept)
+answered-next ks k = answered-linked k (linked ks)
 
 -- ---- alike
 
@@ -105,8 +108,14 @@ count-record c rs =
     ∙ ap (countOf c) (take-padTo room unused (map trackOf rs))
     ∙ count-tracks c rs
 
+-- a channel that is not under watch has no levels
+unwatched-bare : (rs : List Row) (p : Plain) (c : ℕ) → Step rs p → watched (seen p) c ≡ false → seen p .levels c ≡ []
+unwatched-bare rs p c s e =
+    sym (ap (λ (v : View). v .levels c) (s .same))
+    ∙ levels-none c rs (sym (first-watched rs c) ∙ ap (λ (v : View). watched v c) (s .same) ∙ e)
+
 alike-linked : {w : Watch} {p : Plain} → Linked w p → Alike (ofRecord w) (ofPlain p)
-alike-linked l =
+alike-linked {w} {p} l =
     record {
       serving = ap (λ (v : View). v .serving) (shows l);
       neighbour = λ c. ap (λ (v : View). v .neighbour c) (shows l);
@@ -116,8 +125,12 @@ alike-linked l =
           ap (λ (x : Watch). countOf c (take (x .watched) (x .tracks))) (l .made)
           ∙ count-record c (l .held)
           ∙ ap (λ (v : View). length (v .levels c)) (l .kept .same);
-      mean = λ c. ap (λ (v : View). mean (v .levels c)) (shows l);
-      part = λ h r c. ap (λ (v : View). partIn v h c) (shows l);
+      mean = λ c. ap meanTold (answered-linked (ask c) l) ∙ mean-told (seen p) c (unwatched-bare (l .held) p c (l .kept));
+      part =
+          λ h low high c.
+          let m : movesTo (called w (verdict h) .answer) c ≡ is (target (seen p) h) c =
+          ap (λ (a : Told Given). movesTo a c) (answered-linked (verdict h) l) ∙ moved-told (seen p) h c low high in
+          λ i. record { full = full (shows l i .levels c); counts = counts (shows l i) h c; movedTo = m i };
     }
 
 pub asPlain : (ks : List Call) → AsPlain ks
@@ -165,7 +178,7 @@ alike-both x y =
       levels = λ c. x .levels c ∙ sym (y .levels c);
       count = λ c. x .count c ∙ sym (y .count c);
       mean = λ c. x .mean c ∙ sym (y .mean c);
-      part = λ h r c. x .part h r c ∙ sym (y .part h r c);
+      part = λ h low high c. x .part h low high c ∙ sym (y .part h low high c);
     }
 
 placeFree : (ks js : List Call) → AllButForOrder ks js → PlaceFree ks js

@@ -1,18 +1,20 @@
 -- Laws of tests, lists and rows that belong to no one call. Each goes by cases of a test, or down a list.
-use Prim.Native.Nat.{ℕ, zero, suc, _+_, _-_, _≤_}
+use Prim.Native.Nat.{ℕ, zero, suc, _≤_}
 use mathlib.Core.Path.{_≡_, refl, sym, ap, _∙_}
 use mathlib.Core.Bool.{Bool, true, false, not, cond, _&&_, _||_, true≢false, false≢true}
-use mathlib.Core.List.{List, [], _∷_, _++_}
+use mathlib.Core.List.{List, [], _∷_, _++_, append-assoc}
 use native.Mathlib.Omega.{arith}
 use lib.Dec.{eqb}
 use lib.IntN.{ℤ}
-use lib.ListN.{length, drop, take, length-append, length-drop}
-use lib.Seq.{drop-append-le, drop-drop, take-length}
+use lib.ListN.{length, drop, take, length-append}
+use lib.Seq.{drop-at, take-length}
 use borrow.Author.Tests.{eqb-true, eqb-false, eq-eqb, ne-eqb}
 use Rattle.watch_rules.specs.Lists.{mem, every, lastN, padTo}
 use Rattle.watch_rules.specs.Limits.{depth}
 use Rattle.watch_rules.specs.Rules.{View}
 use Rattle.watch_rules.specs.Rows.{Row, channels, levelsOf, first, rest, pushAt}
+use Rattle.watch_rules.specs.Claims.{LastOf}
+use Rattle.watch_rules.proofs.Levels.{last-of}
 
 -- ---- tests
 
@@ -86,31 +88,42 @@ pub drop-none : {A : Type 0} (l : List A) → drop 0 l ≡ l
 drop-none [] = refl
 drop-none (a ∷ l) = refl
 
+-- ends of one list that are as long as each other
+ends-same : {A : Type 0} (a b c d : List A) → a ++ b ≡ c ++ d → length b ≡ length d → b ≡ d
+ends-same a b c d e h =
+    let k : length a ≡ length c = omega (arith, ap length e, length-append a b, length-append c d) in
+    sym (drop-at a b (length c) k) ∙ ap (drop (length c)) e ∙ drop-at c d (length c) refl
+
 pub last-last : {A : Type 0} (n : ℕ) (l : List A) (x : A) → lastN n (lastN n l ++ x ∷ []) ≡ lastN n (l ++ x ∷ [])
-last-last n l x =
-    let k : ℕ = length l - n in
-    let h : k ≤ length l = omega arith in
-    let e : drop k l ++ x ∷ [] ≡ drop k (l ++ x ∷ []) = sym (drop-append-le k l (x ∷ []) h) in
-    let s : k + (length (drop k (l ++ x ∷ [])) - n) ≡ length (l ++ x ∷ []) - n =
-    omega (arith, length-drop k (l ++ x ∷ []), length-append l (x ∷ [])) in
-    ap (lastN n) e
-    ∙ drop-drop (length (drop k (l ++ x ∷ [])) - n) k (l ++ x ∷ [])
-    ∙ ap (λ (j : ℕ). drop j (l ++ x ∷ [])) s
+last-last {A} n l x =
+    let p : LastOf n l (lastN n l) = last-of n l in
+    let q : LastOf n (lastN n l ++ x ∷ []) (lastN n (lastN n l ++ x ∷ [])) = last-of n (lastN n l ++ x ∷ []) in
+    let r : LastOf n (l ++ x ∷ []) (lastN n (l ++ x ∷ [])) = last-of n (l ++ x ∷ []) in
+    ends-same (p .older ++ q .older) (lastN n (lastN n l ++ x ∷ [])) (r .older) (lastN n (l ++ x ∷ []))
+    (append-assoc (p .older) (q .older) (lastN n (lastN n l ++ x ∷ []))
+    ∙ ap (λ (z : List A). p .older ++ z) (sym (q .joined))
+    ∙ sym (append-assoc (p .older) (lastN n l) (x ∷ []))
+    ∙ ap (λ (z : List A). z ++ x ∷ []) (sym (p .joined))
+    ∙ r .joined)
+    (omega (arith, p .number, q .number, r .number, length-append (lastN n l) (x ∷ []), length-append l (x ∷ [])))
 
 pub last-short : {A : Type 0} (n : ℕ) (l : List A) → length l ≤ n → lastN n l ≡ l
-last-short n l h = let z : length l - n ≡ 0 = omega arith in ap (λ (k : ℕ). drop k l) z ∙ drop-none l
+last-short n l h =
+    let p : LastOf n l (lastN n l) = last-of n l in
+    ends-same (p .older) (lastN n l) [] l (sym (p .joined)) (omega (arith, p .number))
 
 pub last-none : {A : Type 0} (n : ℕ) → lastN {A = A} n [] ≡ []
 last-none n = last-short n [] (omega arith)
 
 pub length-lastN : {A : Type 0} (n : ℕ) (l : List A) → length (lastN n l) ≤ n
-length-lastN n l = omega (arith, length-drop (length l - n) l)
+length-lastN n l = omega (arith, last-of n l .number)
 
-pub every-drop : {A : Type 0} (f : A → Bool) (n : ℕ) (l : List A) → every f l ≡ true → every f (drop n l) ≡ true
-every-drop f zero [] e = e
-every-drop f zero (a ∷ l) e = e
-every-drop f (suc n) [] e = e
-every-drop f (suc n) (a ∷ l) e = every-drop f n l (and-right (f a) (every f l) e)
+every-end : {A : Type 0} (f : A → Bool) (a b : List A) → every f (a ++ b) ≡ true → every f b ≡ true
+every-end f [] b e = e
+every-end f (x ∷ a) b e = every-end f a b (and-right (f x) (every f (a ++ b)) e)
+
+pub every-last : {A : Type 0} (f : A → Bool) (n : ℕ) (l : List A) → every f l ≡ true → every f (lastN n l) ≡ true
+every-last f n l e = every-end f (last-of n l .older) (lastN n l) (ap (every f) (sym (last-of n l .joined)) ∙ e)
 
 pub every-snoc : {A : Type 0} (f : A → Bool) (l : List A) (x : A) → every f l ≡ true → f x ≡ true → every f (l ++ x ∷ []) ≡ true
 every-snoc f [] x e h = and-both h refl

@@ -15,10 +15,12 @@ use Rattle.watch_rules.specs.Lists.{sum}
 use Rattle.watch_rules.specs.Told.{ask}
 use Rattle.watch_rules.specs.Rules.{View, mean}
 use Rattle.watch_rules.specs.Plain.{idle, seen, after}
-use Rattle.watch_rules.specs.Claims.{IsMean, AskRule}
+use Rattle.watch_rules.specs.Record.{fresh, called, afterFrom}
+use Rattle.watch_rules.specs.Claims.{IsMean, Asked, AskRule}
 use Rattle.watch_rules.proofs.Order.{le-yes}
 use Rattle.watch_rules.proofs.Calls.{refuse-later, granted-answer}
-use Rattle.watch_rules.proofs.Demand3.{answered-next}
+use Rattle.watch_rules.proofs.Demand3.{linked, shows, answered-next}
+use Rattle.watch_rules.proofs.Refusals.{yes-watched}
 
 -- -n against a number below 0
 below : (n a : ℕ) → suc a ≤ n → negℤ (pos n) ≤ℤ negsuc a
@@ -61,8 +63,9 @@ is-mean (x ∷ l) =
 pub askRule : AskRule
 askRule ks c w =
     let v : View = seen (after idle ks) in
-    record {
+    subst (λ (u : View). Asked (u .levels c) (called (afterFrom fresh ks) (ask c) .answer)) (sym (shows (linked ks)))
+    (record {
       mean = mean (v .levels c);
       isMean = is-mean (v .levels c);
-      answered = answered-next ks (ask c) ∙ granted-answer v (ask c) (refuse-later why.NotWatched w refl);
-    }
+      answered = answered-next ks (ask c) ∙ granted-answer v (ask c) (refuse-later why.NotWatched (yes-watched (after idle ks) c w) refl);
+    })

@@ -1,6 +1,6 @@
 -- The record's rows and the plain watch keep in step: the rows are good, and show what the plain watch shows. Each accepted call keeps it
 -- so. What they show is compared as one value, so that every answer, mean and part in the verdict follows at once.
-use Prim.Native.Nat.{ℕ, _-_}
+use Prim.Native.Nat.{ℕ}
 use mathlib.Core.Path.{_≡_, refl, sym, ap, _∙_}
 use mathlib.Core.Bool.{Bool, true, false, not, cond, _&&_, _||_, false≢true, and-false}
 use mathlib.Core.List.{List, [], _∷_, _++_}
@@ -22,7 +22,7 @@ use Rattle.watch_rules.specs.Told.{Call, start, newList, move, file, ask
 use Rattle.watch_rules.specs.Rules.{View, watched, serves, refusal, listSound, burstRefusal}
 use Rattle.watch_rules.specs.Plain.{Plain, seen, change, afterFile, underWatch}
 use Rattle.watch_rules.specs.Rows.{Row, channels, levelsOf, first, rest, shown, push, pushAt, relisted, inPlaceOf, changedRows, filedRows}
-use Rattle.watch_rules.proofs.Laws.{byCase, clash, and-left, and-right, and-both, not-is, or-true-right, cond-same, cond-map, eqb-sym, last-last, last-none, length-lastN, every-drop, every-snoc, view-path, levels-none, channels-push, first-push, rest-push, levels-push}
+use Rattle.watch_rules.proofs.Laws.{byCase, clash, and-left, and-right, and-both, not-is, or-true-right, cond-same, cond-map, eqb-sym, last-last, last-none, length-lastN, every-last, every-snoc, view-path, levels-none, channels-push, first-push, rest-push, levels-push}
 use Rattle.watch_rules.proofs.Good.{levelsOk, rowFine, Good, good-fits, ranged-levels}
 use Rattle.watch_rules.proofs.Calls.{passed-test, passed-rest, first-watched}
 use Rattle.watch_rules.proofs.Relist.{rest-relisted, levels-relisted, good-relisted, length-inPlace, mem-inPlace, every-inPlace, distinct-inPlace}
@@ -52,7 +52,7 @@ fine-push c x (r ∷ rs) h e =
     let o : rowFine (push x r) ≡ true =
     and-both (and-left (channelInRange (r .channel)) (levelsOk (r .levels)) f)
     (and-both (le-leb (length (lastN depth l)) depth (length-lastN depth l))
-    (every-drop levelInRange (length l - depth) l (every-snoc levelInRange (r .levels) x (ranged-levels (r .levels) k) h))) in
+    (every-last levelInRange depth l (every-snoc levelInRange (r .levels) x (ranged-levels (r .levels) k) h))) in
     byCase (eqb (r .channel) c)
     (λ q. rw q (and-both o g))
     (λ q. rw q (and-both f (fine-push c x rs h g)))

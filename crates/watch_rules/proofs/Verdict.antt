@@ -2,13 +2,15 @@
 -- counts, and there is only one.
 use Prim.Native.Nat.{ℕ, suc, _≤_, _<_}
 use mathlib.Core.Path.{_≡_, refl, sym, ap, _∙_, subst}
+use mathlib.Core.Logic.{_↔_}
 use mathlib.Core.Bool.{Bool, true, false, cond, _&&_}
 use mathlib.Core.List.{List, [], _∷_}
 use mathlib.Core.Option.{Option, none, some}
 use native.Mathlib.Omega.{arith}
 use lib.IntN.{ℤ, pos, _+ℤ_, _*ℤ_}
+use lib.Signed.{_≤ℤ_, _<ℤ_}
 use lib.ListN.{length}
-use borrow.Author.Tests.{eqb-true, eq-eqb, le-leb, lt-leb, leb-true, leb-false}
+use borrow.Author.Tests.{eq-eqb, le-leb, lt-leb, leb-true, leb-false}
 use Rattle.refusal.specs.declared.Refusal.the-variants as why
 use Rattle.refusal.specs.Told.{Told, gives}
 use Rattle.watch_rules.specs.declared.Watch.{Watch}
@@ -16,11 +18,12 @@ use Rattle.watch_rules.specs.Lists.{every, is, sum}
 use Rattle.readings.specs.Channels.{channelHighest, channelInRange}
 use Rattle.watch_rules.specs.Limits.{hysteresisInRange, depth}
 use Rattle.watch_rules.specs.Told.{Call, verdict, Given, wait, stay, moveTo}
-use Rattle.watch_rules.specs.Rules.{View, serves, answer, full, servingLevels, exceeds, counts, target, stayOrMove, verdictOf}
-use Rattle.watch_rules.specs.Plain.{idle, seen, after}
+use Rattle.watch_rules.specs.Rules.{View, serves, answer, full, levelsIf, servingLevels, exceeds, counts, target, stayOrMove, verdictOf}
+use Rattle.watch_rules.specs.Plain.{idle, after}
 use Rattle.watch_rules.specs.Rows.{Row, channels, shown}
-use Rattle.watch_rules.specs.Record.{rows, wellFormed, fresh, afterFrom}
-use Rattle.watch_rules.specs.Claims.{Counts, Strongest, Judged, VerdictRule, TakesPart, PartRule}
+use Rattle.watch_rules.specs.Record.{rows, wellFormed, fresh, called, afterFrom}
+use Rattle.watch_rules.specs.Claims.{ofRecord, movesTo, VerdictRule, PartRule}
+use Rattle.watch_rules.specs.Claims as claims
 use Rattle.watch_rules.proofs.Laws.{byCase, clash, and-left, and-right, and-both}
 use Rattle.watch_rules.proofs.Order.{lt-yes, yes-lt, ≤ℤ-antisymm}
 use Rattle.watch_rules.proofs.Best.{IsBest, best-is}
@@ -30,6 +33,21 @@ use Rattle.watch_rules.proofs.Calls.{refuse-later, granted-answer}
 use Rattle.watch_rules.proofs.Steps.{channels-fine, every-mem}
 use Rattle.watch_rules.proofs.Demand3.{linked, shows, answered-next}
 use Rattle.watch_rules.proofs.Reach.{left-formed}
+use Rattle.watch_rules.proofs.Answers.{in-range, moved-told}
+use Rattle.watch_rules.proofs.Words.{is-some}
+
+-- ---- who counts and who is the strongest, over what a watch shows; `claims` says it where s serves
+
+pub record Counts (v : View) (h : ℤ) (c : ℕ) : Type 0 where
+  pub serving : depth ≤ length (servingLevels v)
+  pub neighbour : v .neighbour c ≡ true
+  pub full : depth ≤ length (v .levels c)
+  pub exceeds : (sum (servingLevels v) +ℤ pos depth *ℤ h) <ℤ sum (v .levels c)
+
+pub record Strongest (v : View) (h : ℤ) (c : ℕ) : Type 0 where
+  pub counting : Counts v h c
+  pub greatest : (d : ℕ) → Counts v h d → sum (v .levels d) ≤ℤ sum (v .levels c)
+  pub lowest : (d : ℕ) → Counts v h d → sum (v .levels d) ≡ sum (v .levels c) → c ≤ d
 
 -- ---- the tests
 
@@ -146,10 +164,6 @@ stay-or-move-move (some b) c e = let z : b ≡ c = cc in ap {B = Option ℕ} som
 wait-is-no : (g : Given) → g ≡ wait → (g ≡ stay → ⊥) × ((c : ℕ) → g ≡ moveTo c → ⊥)
 wait-is-no g e = ((λ q. let z : _≡_ {A = ℕ} 0 1 = cc in omega arith), (λ c q. let z : _≡_ {A = ℕ} 0 1 = cc in omega arith))
 
-is-some : (o : Option ℕ) (c : ℕ) → is o c ≡ true → o ≡ some c
-is-some none c e = clash e refl
-is-some (some b) c e = ap {B = Option ℕ} some (eqb-true b c e)
-
 module _ (v : View) (h : ℤ) where
   pub verdict-full : full (servingLevels v) ≡ true → verdictOf v h ≡ stayOrMove (target v h)
   verdict-full e = ap (λ (b : Bool). cond b (stayOrMove (target v h)) wait) e
@@ -157,43 +171,102 @@ module _ (v : View) (h : ℤ) where
   pub verdict-waits : full (servingLevels v) ≡ false → verdictOf v h ≡ wait
   verdict-waits e = ap (λ (b : Bool). cond b (stayOrMove (target v h)) wait) e
 
-  pub judged : Ranged v → Judged v h (gives (verdictOf v h))
+-- where a channel serves, its levels are the serving ones: what is said over the one is said over the other
+module _ (w : Watch) (s : ℕ) (h : ℤ) (serving : shown (rows w) .serving ≡ some s) where
+  abbrev view : View
+  view = shown (rows w)
+
+  own : servingLevels view ≡ view .levels s
+  own = ap (levelsIf view) serving
+
+  counts-out : {c : ℕ} → Counts view h c → claims.Counts (ofRecord w) s h c
+  unfolding depth
+  counts-out {c} k =
+      record {
+        serving = subst (λ (l : List ℤ). depth ≤ length l) own (k .serving);
+        neighbour = k .neighbour;
+        full = k .full;
+        exceeds = subst (λ (l : List ℤ). (sum l +ℤ pos depth *ℤ h) <ℤ sum (view .levels c)) own (k .exceeds);
+      }
+
+  counts-in : {c : ℕ} → claims.Counts (ofRecord w) s h c → Counts view h c
+  unfolding depth
+  counts-in {c} k =
+      record {
+        serving = subst (λ (l : List ℤ). depth ≤ length l) (sym own) (k .serving);
+        neighbour = k .neighbour;
+        full = k .full;
+        exceeds = subst (λ (l : List ℤ). (sum l +ℤ pos depth *ℤ h) <ℤ sum (view .levels c)) (sym own) (k .exceeds);
+      }
+
+  strongest-out : {c : ℕ} → Strongest view h c → claims.Strongest (ofRecord w) s h c
+  strongest-out x =
+      record {
+        counting = counts-out (x .counting);
+        greatest = λ d k. x .greatest d (counts-in k);
+        lowest = λ d k e. x .lowest d (counts-in k) e;
+      }
+
+  strongest-in : {c : ℕ} → claims.Strongest (ofRecord w) s h c → Strongest view h c
+  strongest-in x =
+      record {
+        counting = counts-in (x .counting);
+        greatest = λ d k. x .greatest d (counts-out k);
+        lowest = λ d k e. x .lowest d (counts-out k) e;
+      }
+
+  full-is : (l : List ℤ) → (full l ≡ true) ↔ (15 ≤ length l)
+  unfolding depth
+  full-is l = (full-yes l, yes-full l)
+
+  waiting-is : (full (servingLevels view) ≡ false) ↔ (length (view .levels s) < 15)
+  unfolding depth
+  waiting-is = (
+    (λ f. subst (λ (l : List ℤ). length l < depth) own (full-no (servingLevels view) f)),
+    (λ n. no-full (servingLevels view) (subst (λ (l : List ℤ). length l < depth) (sym own) n)),
+  )
+
+  ready-is : (full (servingLevels view) ≡ true) ↔ (15 ≤ length (view .levels s))
+  ready-is = ((λ f. full-is (view .levels s) .0 (sym (ap full own) ∙ f)), (λ n. ap full own ∙ full-is (view .levels s) .1 n))
+
+  judged : Ranged view → claims.Judged (ofRecord w) s h (gives (verdictOf view h))
   judged ranged =
       record {
         waits = (
-          (λ e. byCase (full (servingLevels v)) (λ f. absurd (stay-or-move-wait (target v h) (sym (verdict-full f) ∙ given e))) (λ f. full-no (servingLevels v) f)),
-          (λ l. ap gives (verdict-waits (no-full (servingLevels v) l))),
+          (λ e. byCase (full (servingLevels view)) (λ f. absurd (stay-or-move-wait (target view h) (sym (verdict-full view h f) ∙ given e))) (λ f. waiting-is .0 f)),
+          (λ l. ap gives (verdict-waits view h (waiting-is .1 l))),
         );
         stays = (
-          (λ e. byCase (full (servingLevels v))
-              (λ f. (full-yes (servingLevels v) f, none-target v h ranged (stay-or-move-stay (target v h) (sym (verdict-full f) ∙ given e))))
-              (λ f. absurd (wait-is-no (verdictOf v h) (verdict-waits f) .0 (given e)))),
-          (λ n. ap gives (verdict-full (yes-full (servingLevels v) (n .0)) ∙ ap stayOrMove (target-none v h ranged (n .1)))),
+          (λ e. byCase (full (servingLevels view))
+              (λ f. (ready-is .0 f, (λ c k. none-target view h ranged (stay-or-move-stay (target view h) (sym (verdict-full view h f) ∙ given e)) c (counts-in k))))
+              (λ f. absurd (wait-is-no (verdictOf view h) (verdict-waits view h f) .0 (given e)))),
+          (λ n. ap gives (verdict-full view h (ready-is .1 (n .0)) ∙ ap stayOrMove (target-none view h ranged (λ c k. n .1 c (counts-out k))))),
         );
         moves = λ c. (
-          (λ e. byCase (full (servingLevels v))
-              (λ f. some-target v h ranged c (stay-or-move-move (target v h) c (sym (verdict-full f) ∙ given e)))
-              (λ f. absurd (wait-is-no (verdictOf v h) (verdict-waits f) .1 c (given e)))),
-          (λ s. ap gives (verdict-full (yes-full (servingLevels v) (s .counting .serving)) ∙ ap stayOrMove (target-some v h ranged c s))),
+          (λ e. byCase (full (servingLevels view))
+              (λ f. strongest-out (some-target view h ranged c (stay-or-move-move (target view h) c (sym (verdict-full view h f) ∙ given e))))
+              (λ f. absurd (wait-is-no (verdictOf view h) (verdict-waits view h f) .1 c (given e)))),
+          (λ x. ap gives (verdict-full view h (ready-is .1 (x .counting .serving)) ∙ ap stayOrMove (target-some view h ranged c (strongest-in x)))),
         );
       }
     where
       given : {x y : Given} → _≡_ {A = Told Given} (gives x) (gives y) → x ≡ y
       given e = cc
 
-  takes : Ranged v → (c : ℕ) → TakesPart v h c
-  takes ranged c =
-      let none-counts : length (servingLevels v) < depth → (d : ℕ) → Counts v h d → ⊥ = λ l d k. (let s = k .serving in omega arith) in
+  takes : Ranged view → (c : ℕ) → movesTo (called w (verdict h) .answer) c ≡ is (target view h) c → claims.TakesPart (ofRecord w) s h c
+  takes ranged c told =
+      let none-counts : length (view .levels s) < 15 → (d : ℕ) → Counts view h d → ⊥ =
+      λ l d k. (let x = counts-out k .serving in omega arith) in
       record {
-        full = (full-yes (v .levels c), yes-full (v .levels c));
-        counts = (counts-yes v h c, yes-counts v h c);
+        full = full-is (view .levels c);
+        counts = ((λ e. counts-out (counts-yes view h c e)), (λ k. yes-counts view h c (counts-in k)));
         movedTo = (
-          (λ e. some-target v h ranged c (is-some (target v h) c e)),
-          (λ s. ap (λ (o : Option ℕ). is o c) (target-some v h ranged c s) ∙ eq-eqb c c refl),
+          (λ e. strongest-out (some-target view h ranged c (is-some (target view h) c (sym told ∙ e)))),
+          (λ x. told ∙ ap (λ (o : Option ℕ). is o c) (target-some view h ranged c (strongest-in x)) ∙ eq-eqb c c refl),
         );
         waiting = λ l. (
-          byCase (counts v h c) (λ e. absurd (none-counts l c (counts-yes v h c e))) (λ e. e),
-          ap (λ (o : Option ℕ). is o c) (target-none v h ranged (none-counts l)),
+          byCase (counts view h c) (λ e. absurd (none-counts l c (counts-yes view h c e))) (λ e. e),
+          told ∙ ap (λ (o : Option ℕ). is o c) (target-none view h ranged (none-counts l)),
         );
       }
 
@@ -207,16 +280,30 @@ rows-ranged (r ∷ rs) e c m = every-mem channelInRange c (channels rs) (channel
 pub formed-ranged : (w : Watch) → wellFormed w ≡ true → Ranged (shown (rows w))
 formed-ranged w f = rows-ranged (rows w) (read-record w f .good .fine)
 
-after-ranged : (ks : List Call) → Ranged (seen (after idle ks))
-after-ranged ks = subst Ranged (shows (linked ks)) (formed-ranged (afterFrom fresh ks) (left-formed ks))
+-- after every sequence of calls: what the record shows, and what it answers
+module _ (ks : List Call) where
+  abbrev left : Watch
+  left = afterFrom fresh ks
+
+  left-ranged : Ranged (shown (rows left))
+  left-ranged = formed-ranged left (left-formed ks)
+
+  left-serving : (s : ℕ) → after idle ks .serving ≡ some s → shown (rows left) .serving ≡ some s
+  left-serving s e = ap (λ (v : View). v .serving) (shows (linked ks)) ∙ e
+
+  left-answer : (h : ℤ) → called left (verdict h) .answer ≡ answer (shown (rows left)) (verdict h)
+  left-answer h = answered-next ks (verdict h) ∙ ap (λ (v : View). answer v (verdict h)) (sym (shows (linked ks)))
 
 pub verdictRule : VerdictRule
-verdictRule ks h r s =
-    let v : View = seen (after idle ks) in
-    subst (Judged v h) (sym (answered-next ks (verdict h) ∙ accepts v h r s)) (judged v h (after-ranged ks))
-  where
-    accepts : (v : View) (h : ℤ) → hysteresisInRange h ≡ true → serves (v .serving) ≡ true → answer v (verdict h) ≡ gives (verdictOf v h)
-    accepts v h r s = granted-answer v (verdict h) (refuse-later why.ParameterOutOfRange r (refuse-later why.NotWatched s refl))
+verdictRule ks s h e low high =
+    let v : View = shown (rows (afterFrom fresh ks)) in
+    let o : v .serving ≡ some s = left-serving ks s e in
+    subst (claims.Judged (ofRecord (afterFrom fresh ks)) s h)
+    (sym (left-answer ks h
+    ∙ granted-answer v (verdict h) (refuse-later why.ParameterOutOfRange (in-range h low high) (refuse-later why.NotWatched (ap serves o) refl))))
+    (judged (afterFrom fresh ks) s h o (left-ranged ks))
 
 pub partRule : PartRule
-partRule ks h r c = takes (seen (after idle ks)) h (after-ranged ks) c
+partRule ks s h e low high c =
+    takes (afterFrom fresh ks) s h (left-serving ks s e) (left-ranged ks) c
+    (ap (λ (a : Told Given). movesTo a c) (left-answer ks h) ∙ moved-told (shown (rows (afterFrom fresh ks))) h c low high)

@@ -1,10 +1,10 @@
 -- Demand 3, and what else is claimed of the watch. Proved in `proofs/`, each under its name with a small first letter.
-use Prim.Native.Nat.{ℕ, _≤_, _<_}
+use Prim.Native.Nat.{ℕ, _≤_, _<_, min}
 use mathlib.Core.Path.{_≡_}
 use mathlib.Core.Logic.{_↔_}
 use mathlib.Core.Bool.{Bool, true, false, cond}
-use mathlib.Core.List.{List, [], _∷_}
-use mathlib.Core.Option.{Option}
+use mathlib.Core.List.{List, [], _∷_, _++_}
+use mathlib.Core.Option.{Option, some}
 use lib.Dec.{T, eqb, leb}
 use lib.IntN.{ℤ, pos, _+ℤ_, _*ℤ_}
 use lib.Signed.{_≤ℤ_, _<ℤ_}
@@ -21,12 +21,13 @@ use Rattle.watch_rules.specs.declared.Track.{Track}
 use Rattle.watch_rules.specs.declared.Watch.{Watch}
 use Rattle.watch_rules.specs.Lists.{mem, timesIn, distinct, every, is, lastN, sum}
 use Rattle.readings.specs.Channels.{channelInRange}
-use Rattle.watch_rules.specs.Limits.{hysteresisInRange, depth, room}
-use Rattle.watch_rules.specs.Told.{Call, start, newList, move, file, ask, verdict, Given, levels, wait, stay, moveTo, told, toldHanded}
-use Rattle.watch_rules.specs.Rules.{View, serves, mean, full, counts, target, servingLevels}
-use Rattle.watch_rules.specs.Plain.{Plain, idle, underWatch, seen, answers, after}
+use Rattle.watch_rules.specs.Limits.{depth, room}
+use Rattle.watch_rules.specs.Told.{Call, start, newList, move, file, ask, verdict, Given, accepted, levels, wait, stay, moveTo, told, toldHanded}
+use Rattle.watch_rules.specs.Rules.{mean, full, counts, target}
+use Rattle.watch_rules.specs.Plain.{Plain, idle, seen, answers, after}
 use Rattle.watch_rules.specs.Rows.{Row, channels, levelsOf, first, rest, shown}
 use Rattle.watch_rules.specs.Record.{rows, wellFormed, fresh, called, answersFrom, afterFrom}
+use Rattle.watch_rules.specs.Refusals.{Watched, Refuses}
 
 -- ---- demand 3: what is compared besides the answers
 
@@ -36,8 +37,23 @@ pub record Part : Type 0 where
   pub counts : Bool
   pub movedTo : Bool
 
-abbrev pub partIn : View → ℤ → ℕ → Part
-partIn v h c = record { full = full (v .levels c); counts = counts v h c; movedTo = is (target v h) c }
+-- the mean that an answer tells; 0 where it tells none
+abbrev pub meanTold : Told Given → ℤ
+meanTold (refused n) = pos 0
+meanTold (gives accepted) = pos 0
+meanTold (gives (levels count mean)) = mean
+meanTold (gives wait) = pos 0
+meanTold (gives stay) = pos 0
+meanTold (gives (moveTo c)) = pos 0
+
+-- whether an answer says "move" to this channel
+abbrev pub movesTo : Told Given → ℕ → Bool
+movesTo (refused n) c = false
+movesTo (gives accepted) c = false
+movesTo (gives (levels count mean)) c = false
+movesTo (gives wait) c = false
+movesTo (gives stay) c = false
+movesTo (gives (moveTo d)) c = eqb d c
 
 -- "after the last call the serving channel, the set of neighbours and, for each channel under watch, the levels .., oldest first, ..
 -- and its count, mean and part in the verdict": here for each channel number, and one that is not under watch has no levels
@@ -54,7 +70,7 @@ abbrev pub countOf : ℕ → List Track → ℕ
 countOf c [] = 0
 countOf c (t ∷ ts) = cond (eqb (t .channel) c) (t .count) (countOf c ts)
 
--- of a record: its levels, its counts, and what the rules give of these levels
+-- of a record: its levels, its counts, and what an ask and a verdict answer; whether a channel counts shows in no answer
 abbrev pub ofRecord : Watch → Compared
 ofRecord w =
     record {
@@ -62,8 +78,14 @@ ofRecord w =
       neighbour = λ c. mem c (channels (rest (rows w)));
       levels = λ c. levelsOf c (rows w);
       count = λ c. countOf c (take (w .watched) (w .tracks));
-      mean = λ c. mean (levelsOf c (rows w));
-      part = λ h c. partIn (shown (rows w)) h c;
+      mean = λ c. meanTold (called w (ask c) .answer);
+      part =
+          λ h c.
+          record {
+            full = full (levelsOf c (rows w));
+            counts = counts (shown (rows w)) h c;
+            movedTo = movesTo (called w (verdict h) .answer) c;
+          };
     }
 
 -- of the plain watch: the last 15 levels or fewer of all filed since the channel came under watch, and what the rules give of these
@@ -75,7 +97,7 @@ ofPlain p =
       levels = λ c. lastN depth (p .levels c);
       count = λ c. length (lastN depth (p .levels c));
       mean = λ c. mean (lastN depth (p .levels c));
-      part = λ h c. partIn (seen p) h c;
+      part = λ h c. record { full = full (lastN depth (p .levels c)); counts = counts (seen p) h c; movedTo = is (target (seen p) h) c };
     }
 
 -- alike in all of this, the part in the verdict at each hysteresis of 0 to 6,000
@@ -85,7 +107,7 @@ pub record Alike (a b : Compared) : Type 0 where
   pub levels : (c : ℕ) → a .levels c ≡ b .levels c
   pub count : (c : ℕ) → a .count c ≡ b .count c
   pub mean : (c : ℕ) → a .mean c ≡ b .mean c
-  pub part : (h : ℤ) → hysteresisInRange h ≡ true → (c : ℕ) → a .part h c ≡ b .part h c
+  pub part : (h : ℤ) → pos 0 ≤ℤ h → h ≤ℤ pos 6000 → (c : ℕ) → a .part h c ≡ b .part h c
 
 -- ---- demand 3: the order within lists
 
@@ -174,7 +196,31 @@ pub record LeftAsItWas (w : Watch) : Type 0 where
 abbrev pub Unchanged : Type 0
 Unchanged = (w : Watch) → LeftAsItWas w
 
--- ---- the shared rules in document 01's words
+-- ---- the rules that record and plain watch share, in document 01's words, without the definitions of `Rules`
+
+-- a list and its end, the last n or all if fewer: as many as the lesser of n and the number of all
+pub record LastOf {A : Type 0} (n : ℕ) (all last : List A) : Type 0 where
+  pub older : List A
+  pub joined : all ≡ older ++ last
+  pub number : length last ≡ min n (length all)
+
+-- "Those levels are the last ones, 15 at most, filed under that channel number since it last came under watch": the levels in the record
+abbrev pub LevelsRule : Type 0
+LevelsRule = (ks : List Call) (c : ℕ) → LastOf 15 (after idle ks .levels c) (ofRecord (afterFrom fresh ks) .levels c)
+
+-- after every sequence of calls, the next is refused with a number exactly when the table says so
+abbrev pub RefusalRule : Type 0
+RefusalRule = (ks : List Call) (k : Call) (n : ℕ) → (called (afterFrom fresh ks) k .answer ≡ refused n) ↔ Refuses (after idle ks) k n
+
+-- "The other calls answer that they are accepted.": where the table has no number
+abbrev pub Accepts : List Call → Call → Type 0
+Accepts ks k = ((n : ℕ) → ¬ (Refuses (after idle ks) k n)) → called (afterFrom fresh ks) k .answer ≡ gives accepted
+
+pub record AcceptedRule : Type 0 where
+  pub starts : (ks : List Call) (c : ℕ) → Accepts ks (start c)
+  pub lists : (ks : List Call) (l : List ℕ) → Accepts ks (newList l)
+  pub moves : (ks : List Call) (c : ℕ) → Accepts ks (move c)
+  pub files : (ks : List Call) (c : ℕ) (b : Burst) → Accepts ks (file c b)
 
 -- "the largest whole number not above sum / count; 0 for a count of 0"
 pub record IsMean (l : List ℤ) (m : ℤ) : Type 0 where
@@ -182,7 +228,7 @@ pub record IsMean (l : List ℤ) (m : ℤ) : Type 0 where
   pub notAbove : (m *ℤ pos (length l)) ≤ℤ sum l
   pub largest : (k : ℤ) → 0 < length l → (k *ℤ pos (length l)) ≤ℤ sum l → k ≤ℤ m
 
--- "Ask (channel): count and mean": after every sequence of calls, of a channel under watch, over its last 15 levels or fewer
+-- "Ask (channel): count and mean": after every sequence of calls, of a channel under watch, over its levels in the record
 pub record Asked (l : List ℤ) (a : Told Given) : Type 0 where
   pub mean : ℤ
   pub isMean : IsMean l mean
@@ -190,46 +236,55 @@ pub record Asked (l : List ℤ) (a : Told Given) : Type 0 where
 
 abbrev pub AskRule : Type 0
 AskRule =
-    (ks : List Call) (c : ℕ) → underWatch (after idle ks) c ≡ true
-    → Asked (lastN depth (after idle ks .levels c)) (called (afterFrom fresh ks) (ask c) .answer)
+    (ks : List Call) (c : ℕ) → Watched (after idle ks) c
+    → Asked (ofRecord (afterFrom fresh ks) .levels c) (called (afterFrom fresh ks) (ask c) .answer)
 
--- "the neighbours that count are those with 15 levels whose sum exceeds the serving sum by more than 15 times the hysteresis", once
--- the serving channel has 15 levels itself
-pub record Counts (v : View) (h : ℤ) (c : ℕ) : Type 0 where
-  pub serving : depth ≤ length (servingLevels v)
+-- of what a record shows, where s serves: "the neighbours that count are those with 15 levels whose sum exceeds the serving sum by more
+-- than 15 times the hysteresis", once the serving channel has 15 levels itself
+pub record Counts (v : Compared) (s : ℕ) (h : ℤ) (c : ℕ) : Type 0 where
+  pub serving : 15 ≤ length (v .levels s)
   pub neighbour : v .neighbour c ≡ true
-  pub full : depth ≤ length (v .levels c)
-  pub exceeds : (sum (servingLevels v) +ℤ pos depth *ℤ h) <ℤ sum (v .levels c)
+  pub full : 15 ≤ length (v .levels c)
+  pub exceeds : (sum (v .levels s) +ℤ pos 15 *ℤ h) <ℤ sum (v .levels c)
 
 -- "the one with the greatest sum, the lowest channel number among equals"
-pub record Strongest (v : View) (h : ℤ) (c : ℕ) : Type 0 where
-  pub counting : Counts v h c
-  pub greatest : (d : ℕ) → Counts v h d → sum (v .levels d) ≤ℤ sum (v .levels c)
-  pub lowest : (d : ℕ) → Counts v h d → sum (v .levels d) ≡ sum (v .levels c) → c ≤ d
+pub record Strongest (v : Compared) (s : ℕ) (h : ℤ) (c : ℕ) : Type 0 where
+  pub counting : Counts v s h c
+  pub greatest : (d : ℕ) → Counts v s h d → sum (v .levels d) ≤ℤ sum (v .levels c)
+  pub lowest : (d : ℕ) → Counts v s h d → sum (v .levels d) ≡ sum (v .levels c) → c ≤ d
 
 -- `"wait" while the serving channel has fewer than 15 levels. Otherwise .. None: "stay". Else "move" to the one with the greatest sum`:
 -- each of the three exactly then
-pub record Judged (v : View) (h : ℤ) (a : Told Given) : Type 0 where
-  pub waits : (a ≡ gives wait) ↔ (length (servingLevels v) < depth)
-  pub stays : (a ≡ gives stay) ↔ ((depth ≤ length (servingLevels v)) × ((c : ℕ) → Counts v h c → ⊥))
-  pub moves : (c : ℕ) → (a ≡ gives (moveTo c)) ↔ Strongest v h c
+pub record Judged (v : Compared) (s : ℕ) (h : ℤ) (a : Told Given) : Type 0 where
+  pub waits : (a ≡ gives wait) ↔ (length (v .levels s) < 15)
+  pub stays : (a ≡ gives stay) ↔ ((15 ≤ length (v .levels s)) × ((c : ℕ) → ¬ (Counts v s h c)))
+  pub moves : (c : ℕ) → (a ≡ gives (moveTo c)) ↔ Strongest v s h c
 
 -- after every sequence of calls, at each hysteresis of 0 to 6,000, where a channel serves: what the call answers
 abbrev pub VerdictRule : Type 0
 VerdictRule =
-    (ks : List Call) (h : ℤ) → hysteresisInRange h ≡ true → serves (after idle ks .serving) ≡ true
-    → Judged (seen (after idle ks)) h (called (afterFrom fresh ks) (verdict h) .answer)
+    (ks : List Call) (s : ℕ) (h : ℤ) → after idle ks .serving ≡ some s → pos 0 ≤ℤ h → h ≤ℤ pos 6000
+    → Judged (ofRecord (afterFrom fresh ks)) s h (called (afterFrom fresh ks) (verdict h) .answer)
 
 -- a channel's part in the verdict by the same words; while the serving channel has fewer than 15 levels, nothing counts and nothing is
 -- moved to
-pub record TakesPart (v : View) (h : ℤ) (c : ℕ) : Type 0 where
-  pub full : (partIn v h c .full ≡ true) ↔ (depth ≤ length (v .levels c))
-  pub counts : (partIn v h c .counts ≡ true) ↔ Counts v h c
-  pub movedTo : (partIn v h c .movedTo ≡ true) ↔ Strongest v h c
-  pub waiting : length (servingLevels v) < depth → (partIn v h c .counts ≡ false) × (partIn v h c .movedTo ≡ false)
+pub record TakesPart (v : Compared) (s : ℕ) (h : ℤ) (c : ℕ) : Type 0 where
+  pub full : (v .part h c .full ≡ true) ↔ (15 ≤ length (v .levels c))
+  pub counts : (v .part h c .counts ≡ true) ↔ Counts v s h c
+  pub movedTo : (v .part h c .movedTo ≡ true) ↔ Strongest v s h c
+  pub waiting : length (v .levels s) < 15 → (v .part h c .counts ≡ false) × (v .part h c .movedTo ≡ false)
 
 abbrev pub PartRule : Type 0
-PartRule = (ks : List Call) (h : ℤ) → hysteresisInRange h ≡ true → (c : ℕ) → TakesPart (seen (after idle ks)) h c
+PartRule =
+    (ks : List Call) (s : ℕ) (h : ℤ) → after idle ks .serving ≡ some s → pos 0 ≤ℤ h → h ≤ℤ pos 6000
+    → (c : ℕ) → TakesPart (ofRecord (afterFrom fresh ks)) s h c
+
+-- the words for lists in which the plain watch and the record's tests are written
+pub record WordsRule : Type 0 where
+  pub among : (c : ℕ) (l : List ℕ) → (mem c l ≡ true) ↔ (0 < timesIn c l)
+  pub apart : (l : List ℕ) → (distinct l ≡ true) ↔ ((c : ℕ) → timesIn c l ≤ 1)
+  pub all : (test : ℕ → Bool) (l : List ℕ) → (every test l ≡ true) ↔ ((c : ℕ) → 0 < timesIn c l → test c ≡ true)
+  pub same : (o : Option ℕ) (c : ℕ) → (is o c ≡ true) ↔ (o ≡ some c)
 
 -- ---- answers
 

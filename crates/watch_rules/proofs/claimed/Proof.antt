@@ -1,4 +1,6 @@
 -- `watch_rules::claimed` meets its contract: each of its parts is a theorem of this folder.
+use Rattle.watch_rules.proofs.Words.{wordsRule}
+use Rattle.watch_rules.proofs.Rules.{levelsRule, refusalRule, acceptedRule}
 use Rattle.watch_rules.proofs.Demand3.{demand3}
 use Rattle.watch_rules.proofs.Reach.{wellFormedIsReachable}
 use Rattle.watch_rules.proofs.Unchanged.{itFollows, unchanged}
@@ -9,7 +11,19 @@ use Rattle.watch_rules.proofs.claimed.Statement.{statement}
 use Rattle.watch_rules.proofs.claimed.Tie as tie
 
 returns : tie.Need-returns
-returns c = (demand3, (wellFormedIsReachable, (itFollows, (unchanged, (askRule, (verdictRule, (partRule, answersDiffer)))))))
+returns c = (
+  demand3,
+  (
+    wellFormedIsReachable,
+    (
+      itFollows,
+      (
+        unchanged,
+        (levelsRule, (refusalRule, (acceptedRule, (askRule, (verdictRule, (partRule, (wordsRule, answersDiffer))))))),
+      ),
+    ),
+  ),
+)
 
 pub claimed-spec : {M : Type 1} → statement M
 claimed-spec = tie.close (tie.spec returns)
