@@ -4,8 +4,8 @@ pub mod Lists
 pub mod Ranked
 pub mod Endings
 pub mod Answers
-pub mod Claims
 pub mod Refusals
+pub mod Claims
 pub mod KeyOrder
 pub mod Depths
 pub mod Gathered
