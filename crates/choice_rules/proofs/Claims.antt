@@ -19,16 +19,16 @@ use Rattle.sweep_rules.proofs.Tests.{which, clash}
 use Rattle.choice_rules.specs.declared.Choice.{Choice}
 use Rattle.choice_rules.specs.declared.Choice.the-variants as choice
 use Rattle.choice_rules.specs.Order.{searchOrder, nearPart}
-use Rattle.choice_rules.specs.Choose.{notRead, suitable, outcomeAt, Chosen, camp, read, noBeam, firstOpen, placeIn, answerOf, chosenAmong, chosen, choosing}
+use Rattle.choice_rules.specs.Choose.{notRead, suitable, outcomeAt, outcomesFine, Chosen, camp, read, noBeam}
+use Rattle.choice_rules.specs.Choose.{firstOpen, placeIn, answerOf, chosenAmong, chosen, choosing}
 use Rattle.choice_rules.specs.Code.{All}
 use Rattle.choice_rules.specs.Told.{toldChoice}
 use Rattle.choice_rules.specs.Claims.{Accepts, Passes, SearchOrderRule, NearPartRule, WithinMargin, Unsuitable, Named, TriedIsPlace}
 use Rattle.choice_rules.specs.Claims.{NoBeamExactly, UnheardBytes, AnswersDiffer, AnswersTold}
 use Rattle.choice_rules.proofs.Lists.{all-mem, mem-all, mem-at, all-at}
 use Rattle.choice_rules.proofs.Ranked.{ordered, order-rule, near-rule}
-use Rattle.choice_rules.proofs.Answers.{isOpen, open-cases, above-closed, FirstAt, namedAs, AnswerAt, chosen-at, first-yes, first-no}
-use Rattle.choice_rules.proofs.Answers.{Accepted, accepted-is, accepts, unsuitable}
-use Rattle.choice_rules.proofs.Refusals.{in-fine, to-row, from-row}
+use Rattle.choice_rules.proofs.Answers.{isOpen, open-cases, closed-above, above-closed, FirstAt, namedAs, AnswerAt, chosen-at, first-yes, first-no}
+use Rattle.choice_rules.proofs.Refusals.{fine-at, in-fine, to-row, from-row, Accepted, accepted-is, accepts}
 pub use Rattle.choice_rules.proofs.Refusals.{refusalRule}
 
 pub searchOrderRule : SearchOrderRule
@@ -36,6 +36,38 @@ searchOrderRule s = order-rule (heard s) s
 
 pub nearPartRule : NearPartRule
 nearPartRule s m = near-rule (heard s) s m
+
+-- ---- bytes of channels not heard
+
+-- outcomes that agree on a list give the same first open channel, and the same answer for it
+answer-same : (o p : ℕ → ℕ) (order near cs : List ℕ) → All (λ c. o c ≡ p c) cs → answerOf o order near (firstOpen o cs) ≡ answerOf p order near (firstOpen p cs)
+unfolding answerOf firstOpen
+answer-same o p order near [] a = refl
+answer-same o p order near (c ∷ cs) a = ⊎-elim
+    (λ (e : isOpen (o c) ≡ true).
+    ap (answerOf o order near) (first-yes o c cs e)
+    ∙ ap (λ (x : ℕ). cond (eqb x suitable) (camp c (placeIn order c)) (read c (placeIn order c))) (a .0)
+    ∙ sym (ap (answerOf p order near) (first-yes p c cs (ap isOpen (sym (a .0)) ∙ e))))
+    (λ (e : isOpen (o c) ≡ false).
+    ap (answerOf o order near) (first-no o c cs e)
+    ∙ answer-same o p order near cs (a .1)
+    ∙ sym (ap (answerOf p order near) (first-no p c cs (ap isOpen (sym (a .0)) ∙ e))))
+    (which (isOpen (o c)))
+
+-- and those that agree on the channels that pass a test, the same choice among these
+chosen-same : (test : ℕ → Bool) (s : Sweep) (m : ℤ) (o p : List ℕ) → ((c : ℕ) → Passes test c → outcomeAt o c ≡ outcomeAt p c)
+    → chosenAmong test s m o ≡ chosenAmong test s m p
+unfolding chosenAmong
+chosen-same test s m o p same =
+    let near = nearPart test s m in
+    answer-same (outcomeAt o) (outcomeAt p) (searchOrder test s) near near
+    (mem-all (λ c. outcomeAt o c ≡ outcomeAt p c) near (λ c i. same c (near-rule test s m .exactly c .0 i .0)))
+
+pub unheardBytes : UnheardBytes
+unfolding choosing chosen
+unheardBytes s m o p in-o in-p same =
+    let e : chosen s m o ≡ chosen s m p = chosen-same (heard s) s m o p same in
+    rw (in-fine o in-o, in-fine p in-p, e)
 
 -- ---- the cases of an answer
 
@@ -70,6 +102,10 @@ module _ (o : ℕ → ℕ) (c n : ℕ) (opens : isOpen (o c) ≡ true) (d k : �
       by false t e = (cc, cc, ⊎-elim (λ (q : o c ≡ notRead). q) (λ (q : o c ≡ suitable). absurd (eqb-false (o c) suitable t q)) (open-cases (o c) opens))
 
 -- ---- the answer of an accepted choice
+
+-- an outcome that is not open is one of 2 to 5
+unsuitable : (o : List ℕ) → outcomesFine o ≡ true → (c : ℕ) → c < 1088 → isOpen (outcomeAt o c) ≡ false → Unsuitable o c
+unsuitable o e c h q = (closed-above (outcomeAt o c) q, fine-at o e c h)
 
 module _ (s : Sweep) (m : ℤ) (o : List ℕ) (a : Chosen) (A : Accepted s m o a) where
   abbrev order : List ℕ
@@ -196,30 +232,6 @@ noBeamExactly s m o a e =
       λ b c p w. all-closed s m o a A (b .0) (b .1) .0 c (near-rule (heard s) s m .exactly c .1 (p, w)),
       λ h. (length (nearPart (heard s) s m), closed-all s m o a A (λ c i. let w = within s m o a A c i in h c (w .0) (w .1))),
     )
-
--- ---- bytes of channels not heard
-
--- outcomes that agree on a list give the same first open channel, and the same answer for it
-answer-same : (o p : ℕ → ℕ) (order near cs : List ℕ) → All (λ c. o c ≡ p c) cs → answerOf o order near (firstOpen o cs) ≡ answerOf p order near (firstOpen p cs)
-unfolding answerOf firstOpen
-answer-same o p order near [] a = refl
-answer-same o p order near (c ∷ cs) a = ⊎-elim
-    (λ (e : isOpen (o c) ≡ true).
-    ap (answerOf o order near) (first-yes o c cs e)
-    ∙ ap (λ (x : ℕ). cond (eqb x suitable) (camp c (placeIn order c)) (read c (placeIn order c))) (a .0)
-    ∙ sym (ap (answerOf p order near) (first-yes p c cs (ap isOpen (sym (a .0)) ∙ e))))
-    (λ (e : isOpen (o c) ≡ false).
-    ap (answerOf o order near) (first-no o c cs e)
-    ∙ answer-same o p order near cs (a .1)
-    ∙ sym (ap (answerOf p order near) (first-no p c cs (ap isOpen (sym (a .0)) ∙ e))))
-    (which (isOpen (o c)))
-
-pub unheardBytes : UnheardBytes
-unfolding choosing chosen chosenAmong
-unheardBytes s m o p in-o in-p same =
-    let near = nearPart (heard s) s m in
-    let agree = mem-all (λ c. outcomeAt o c ≡ outcomeAt p c) near (λ c i. same c (near-rule (heard s) s m .exactly c .0 i .0)) in
-    rw (in-fine o in-o, in-fine p in-p, answer-same (outcomeAt o) (outcomeAt p) (searchOrder (heard s) s) near near agree)
 
 -- ---- each way back from what is told
 

@@ -3,8 +3,8 @@ pub mod Whole
 pub mod Lists
 pub mod Ranked
 pub mod Endings
-pub mod Answers
 pub mod Refusals
+pub mod Answers
 pub mod Claims
 pub mod KeyOrder
 pub mod Depths

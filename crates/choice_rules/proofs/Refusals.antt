@@ -1,30 +1,39 @@
--- The refusals in document 01's words. A test that fails names the row of the table, and a row decides the tests.
+-- The refusals in document 01's words, and an accepted choice. A test that fails names the row of the table, and a row decides the tests.
 use Prim.Native.Nat.{ℕ, _≤_, _<_}
-use mathlib.Core.Path.{_≡_, sym, _∙_, subst}
-use mathlib.Core.Bool.{true, false}
+use mathlib.Core.Path.{_≡_, refl, sym, ap, _∙_, subst}
+use mathlib.Core.Bool.{Bool, true, false}
 use mathlib.Core.List.{List}
 use mathlib.Core.Logic.{⊎-elim}
-use lib.Dec.{leb}
+use lib.Dec.{eqb, leb}
 use lib.ListN.{length}
 use lib.IntN.{ℤ, pos}
 use lib.Signed.{leZ}
-use borrow.Author.Tests.{le-leb, eq-eqb}
-use Rattle.refusal.specs.Told.{refused}
+use borrow.Author.Tests.{le-leb, leb-true, eqb-true, eq-eqb}
+use Rattle.refusal.specs.Told.{refused, gives}
 use Rattle.refusal.proofs.OneToOne.{gives-refused}
 use Rattle.sweep_rules.specs.Map.{channels}
-use Rattle.sweep_rules.specs.Record.{finished, wellFormed}
+use Rattle.sweep_rules.specs.Record.{everyChannel, finished, wellFormed}
 use Rattle.sweep_rules.specs.Claims.{Finished}
 use Rattle.sweep_rules.specs.declared.Sweep.{Sweep}
-use Rattle.sweep_rules.proofs.Tests.{which, both, left, right, each-all}
+use Rattle.sweep_rules.proofs.Tests.{which, both, left, right, each-all, all-each}
 use Rattle.sweep_rules.proofs.Levels.{le-fact, fact-le}
 use Rattle.sweep_rules.proofs.ReadCalls.{fails, says-no, number}
 use Rattle.sweep_rules.proofs.Claims.{wellFormedRule, finishedRule}
-use Rattle.choice_rules.specs.Choose.{outcomeAt, outcomesFine, highestOutcome, marginInRange, choosing}
+use Rattle.choice_rules.specs.Choose.{outcomeAt, outcomesFine, highestOutcome, marginInRange, Chosen, chosen, choosing}
 use Rattle.choice_rules.specs.Claims.{OutcomesInRange, MarginInRange, Refuses, unformed, outcomesFaulty, marginOutOfRange, unfinished, RefusalRule}
 use Rattle.choice_rules.proofs.Endings.{says-9, says-8, says-7, says-4, says-chosen}
-use Rattle.choice_rules.proofs.Answers.{fine-length, fine-at}
 
 -- ---- each test from its words, and the words from the test
+
+pub fine-length : (o : List ℕ) → outcomesFine o ≡ true → length o ≡ channels
+unfolding outcomesFine
+fine-length o e = eqb-true (length o) channels (left (eqb (length o) channels) (everyChannel (λ c. leb (outcomeAt o c) highestOutcome)) e)
+
+pub fine-at : (o : List ℕ) → outcomesFine o ≡ true → (c : ℕ) → c < channels → outcomeAt o c ≤ highestOutcome
+unfolding outcomesFine
+fine-at o e c h =
+    let every = right (eqb (length o) channels) (everyChannel (λ d. leb (outcomeAt o d) highestOutcome)) e in
+    leb-true (outcomeAt o c) highestOutcome (all-each channels (λ d. leb (outcomeAt o d) highestOutcome) every c h)
 
 fine-in : (o : List ℕ) → outcomesFine o ≡ true → OutcomesInRange o
 fine-in o e = record { long = fine-length o e; bytes = fine-at o e }
@@ -77,3 +86,30 @@ module _ (s : Sweep) (m : ℤ) (o : List ℕ) where
 
 pub refusalRule : RefusalRule
 refusalRule s m o n = (to-row s m o n, from-row s m o)
+
+-- ---- an accepted choice
+
+pub record Accepted (s : Sweep) (m : ℤ) (o : List ℕ) (a : Chosen) : Type 0 where
+  pub formed : wellFormed s ≡ true
+  pub fine : outcomesFine o ≡ true
+  pub margin : marginInRange m ≡ true
+  pub done : finished s ≡ true
+  pub is : chosen s m o ≡ a
+
+pub accepted-is : (s : Sweep) (m : ℤ) (o : List ℕ) (a : Chosen) → choosing s m o ≡ gives a → Accepted s m o a
+accepted-is s m o a e =
+    let w = holds (wellFormed s) (λ z. gives-refused (sym (says-9 s m o z ∙ e))) in
+    let f = holds (outcomesFine o) (λ z. gives-refused (sym (says-8 s m o w z ∙ e))) in
+    let r = holds (marginInRange m) (λ z. gives-refused (sym (says-7 s m o w f z ∙ e))) in
+    let d = holds (finished s) (λ z. gives-refused (sym (says-4 s m o w f r z ∙ e))) in
+    record { formed = w; fine = f; margin = r; done = d; is = given (chosen s m o) (says-chosen s m o w f r d ∙ e) }
+  where
+    holds : (b : Bool) → (b ≡ false → ⊥) → b ≡ true
+    holds true n = refl
+    holds false n = absurd (n refl)
+
+    given : (c : Chosen) → gives c ≡ gives a → c ≡ a
+    given c q = cc
+
+pub accepts : (s : Sweep) (m : ℤ) (o : List ℕ) (a : Chosen) → Accepted s m o a → choosing s m o ≡ gives a
+accepts s m o a A = sym (says-chosen s m o (A .formed) (A .fine) (A .margin) (A .done)) ∙ ap gives (A .is)

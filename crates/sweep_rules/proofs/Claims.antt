@@ -17,12 +17,8 @@ pub use Rattle.sweep_rules.proofs.Refusals.{refusalRule}
 pub use Rattle.sweep_rules.proofs.ReadCalls.{answerRule}
 pub use Rattle.sweep_rules.proofs.Lowest.{nextLowest, finishedRule}
 pub use Rattle.sweep_rules.proofs.OneFiling.{filingRule}
-pub use Rattle.sweep_rules.proofs.Filings.{sequenceRule, filedFromFresh}
-
--- ---- each case is told as what it says
-
-pub answersTold : AnswersTold
-answersTold = record { nextChannel = λ c. refl; nextDone = refl; nextRefused = λ r. refl; numbersOf = λ v h. refl; numbersRefused = λ r. refl }
+pub use Rattle.sweep_rules.proofs.Sequences.{sequenceRule}
+pub use Rattle.sweep_rules.proofs.Filings.{filedFromFresh}
 
 -- ---- each way back from what is told
 
@@ -48,3 +44,8 @@ numbers-back (numbers.Refused r) = ap numbers.Refused (refusal-back r)
 
 pub answersDiffer : AnswersDiffer
 answersDiffer = record { next = by-way-back toldNext nextFrom next-back; numbers = by-way-back toldNumbers numbersFrom numbers-back }
+
+-- ---- each case is told as what it says
+
+pub answersTold : AnswersTold
+answersTold = record { nextChannel = λ c. refl; nextDone = refl; nextRefused = λ r. refl; numbersOf = λ v h. refl; numbersRefused = λ r. refl }

@@ -10,5 +10,6 @@ pub mod ReadCalls
 pub mod Lowest
 pub mod Refusals
 pub mod OneFiling
+pub mod Sequences
 pub mod Filings
 pub mod Claims

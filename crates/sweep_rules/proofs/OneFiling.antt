@@ -21,9 +21,9 @@ use Rattle.readings.specs.Hundredths.{levelOf, qualityOf}
 use Rattle.sweep_rules.specs.Map.{isSet, withBit}
 use Rattle.sweep_rules.specs.Record.{visited, heard, wellFormed}
 use Rattle.sweep_rules.specs.Filing.{withMissed, withHeard, withBurst, filing, leaves, answers}
-use Rattle.sweep_rules.specs.Claims.{Typed, WellFormed, Accepts, unformed, channelBelow, channelAbove, visitedBefore, isHeard, Filed, FilingRule}
+use Rattle.sweep_rules.specs.Claims.{Typed, WellFormed, Accepts, unformed, channelBelow, channelAbove, visitedBefore, Filed, FilingRule}
 use Rattle.sweep_rules.specs.declared.Sweep.{Sweep}
-use Rattle.sweep_rules.proofs.Tests.{which, clash}
+use Rattle.sweep_rules.proofs.Tests.{which}
 use Rattle.sweep_rules.proofs.Maps.{length-with, oneBitSet}
 use Rattle.sweep_rules.proofs.Formed.{or-left, or-right, not-heard, ends-swept, wellFormedRule}
 use Rattle.sweep_rules.proofs.Filed.{file-in}
@@ -50,14 +50,13 @@ marked m c d long low = (
 same-reading : (b : Burst) (r q : Reading) → b ≡ Heard r → b ≡ Heard q → q ≡ r
 same-reading b r q d e = cc
 
-heard-missed : {b : Burst} {r : Reading} → b ≡ Heard r → b ≡ Missed → ⊥
-heard-missed p q = clash (ap isHeard p) (ap isHeard q)
+pub heard-missed : {b : Burst} {r : Reading} → b ≡ Heard r → b ≡ Missed → ⊥
+heard-missed p q = let z : _≡_ {A = ℕ} 0 1 = cc in omega arith
 
 module _ (s : Sweep) (c : ℕ) (b : Burst) (typed : Typed s) (low : c < 1088) where
   missed-filed : WellFormed s → visited s c ≡ false → b ≡ Missed → Filed s c b (withMissed s c)
   unfolding withMissed
   missed-filed w clear is = record {
-    typed = record { levels = typed .levels; visited = length-with (s .visited) c ∙ typed .visited; heard = typed .heard };
     visits = λ d. marked (s .visited) c d (typed .visited) low;
     hears = λ r q. absurd (heard-missed q is);
     levelStored = λ r q. absurd (heard-missed q is);
@@ -65,16 +64,12 @@ module _ (s : Sweep) (c : ℕ) (b : Burst) (typed : Typed s) (low : c < 1088) wh
     misses = λ q d. refl;
     levelsKept = λ q d. refl;
     levelZero = λ q. w .levelZero c low (not-heard s (wellFormedRule s .1 w) c low clear);
+    typed = record { levels = typed .levels; visited = length-with (s .visited) c ∙ typed .visited; heard = typed .heard };
   }
 
   heard-filed : (r : Reading) (level : ℤ) → b ≡ Heard r → levelOf (r .level) ≡ gives level → Filed s c b (withHeard s c level)
   unfolding withHeard
   heard-filed r level is e = record {
-    typed = record {
-      levels = length-set (s .levels) c level ∙ typed .levels;
-      visited = length-with (s .visited) c ∙ typed .visited;
-      heard = length-with (s .heard) c ∙ typed .heard;
-    };
     visits = λ d. marked (s .visited) c d (typed .visited) low;
     hears = λ r2 q d. marked (s .heard) c d (typed .heard) low;
     levelStored = λ r2 q.
@@ -85,6 +80,11 @@ module _ (s : Sweep) (c : ℕ) (b : Burst) (typed : Typed s) (low : c < 1088) wh
     misses = λ q. absurd (heard-missed is q);
     levelsKept = λ q. absurd (heard-missed is q);
     levelZero = λ q. absurd (heard-missed is q);
+    typed = record {
+      levels = length-set (s .levels) c level ∙ typed .levels;
+      visited = length-with (s .visited) c ∙ typed .visited;
+      heard = length-with (s .heard) c ∙ typed .heard;
+    };
   }
 
 -- ---- the tests passed

@@ -81,8 +81,7 @@ WellFormedRule = (s : Sweep) → (wellFormed s ≡ true) ↔ WellFormed s
 
 -- ---- the refusals in document 01's words
 
--- the table for a filing: it is refused with this number. "Several at once: 9, .. 2, .. 3, .. 1.": a later number only where no earlier one is
--- given
+-- the table for a filing: it is refused with this number. "Several at once: 9, .. 2, .. 3, .. 1.": a later number only where no earlier one is given
 pub data Refuses (s : Sweep) (c : ℕ) (b : Burst) : ℕ → Type 0 where
   -- 9: "a record not well formed"
   unformed : ¬ (WellFormed s) → Refuses s c b 9
@@ -112,7 +111,6 @@ pub record RefusalRule : Type 0 where
 
 -- t is the record s with the burst b filed for channel c
 pub record Filed (s : Sweep) (c : ℕ) (b : Burst) (t : Sweep) : Type 0 where
-  pub typed : Typed t
   -- visited are exactly c and those visited before
   pub visits : (d : ℕ) → (visited t d ≡ true) ↔ ((visited s d ≡ true) ⊎ (d ≡ c))
   -- a heard burst: heard are exactly c and those heard before, its level is stored, and every other is as it was
@@ -123,6 +121,8 @@ pub record Filed (s : Sweep) (c : ℕ) (b : Burst) (t : Sweep) : Type 0 where
   pub misses : b ≡ Missed → (d : ℕ) → heard t d ≡ heard s d
   pub levelsKept : b ≡ Missed → (d : ℕ) → levelAt t d ≡ levelAt s d
   pub levelZero : b ≡ Missed → levelAt t c ≡ pos 0
+  -- as long as before
+  pub typed : Typed t
 
 -- what filing b for channel c answers, and the record that it hands back
 pub record FilesRule (s : Sweep) (c : ℕ) (b : Burst) : Type 0 where
