@@ -4,7 +4,7 @@ use Prim.Native.Nat.{ℕ, suc, _<_}
 use mathlib.Core.Path.{_≡_, refl, sym, ap, ap₂, _∙_, subst}
 use mathlib.Core.Bool.{Bool, true, false, cond}
 use mathlib.Core.List.{List, [], _∷_, List·Memᴰ, List·Memᴰ·head, Memᴰ·cast}
-use mathlib.Core.Logic.{_⊎_, ⊎-elim}
+use mathlib.Core.Logic.{_↔_, _⊎_, ⊎-elim}
 use native.Mathlib.Nat.{not-suc-le-zero, le-antisymm, le-of-suc-le-suc, lt-of-not-le}
 use native.Mathlib.Omega.{arith}
 use lib.ListN.{length, getD}
@@ -203,27 +203,35 @@ module _ (s : Sweep) (m : ℤ) (o : List ℕ) where
   tells : (a : Chosen) → ((b : Chosen) → Accepted s m o b → b ≡ a) → Accepts s m o → choosing s m o ≡ gives a
   tells a is N = let x = accepted N in accepts s m o (x .0) (x .1) ∙ ap gives (is (x .0) (x .1))
 
+-- an answer that names a channel of outcome b, for camp and read alike
+module _
+    (say : ℕ → ℕ → Chosen)
+    (b : ℕ)
+    (opens : isOpen b ≡ true)
+    (says : (c n : ℕ) → cond (eqb b suitable) (camp c n) (read c n) ≡ say c n)
+    (only : (o : ℕ → ℕ) (c n : ℕ) → isOpen (o c) ≡ true → (d k : ℕ) → namedAs o c n ≡ say d k → (c ≡ d) × (n ≡ k) × (o c ≡ b))
+    (other : (c n k : ℕ) → say c n ≡ noBeam k → ⊥)
+  where
+    named-exactly : (s : Sweep) (m : ℤ) (o : List ℕ) (c n : ℕ) → (choosing s m o ≡ gives (say c n)) ↔ (Accepts s m o × Named s m o c n × (getD o c 0 ≡ b))
+    named-exactly s m o c n = (
+      λ e.
+          let A = accepted-is s m o (say c n) e in
+          let q = names s m o (say c n) A c n b (λ d j t f. only (outcomeAt o) d j t c n (sym f)) (other c n) in
+          (no-row s m o (say c n) e, q .0, q .1),
+      λ h.
+          let named : namedAs (outcomeAt o) c n ≡ say c n = ap (λ (x : ℕ). cond (eqb x suitable) (camp c n) (read c n)) (h .2) ∙ says c n in
+          tells s m o (say c n) (λ a A. is-named s m o a A c n (h .1) (ap isOpen (h .2) ∙ opens) ∙ named) (h .0),
+    )
+
 pub triedIsPlace : TriedIsPlace
 triedIsPlace s m o = record {
-  camps = λ c n. (
-    λ e.
-        let A = accepted-is s m o (camp c n) e in
-        let q = names s m o (camp c n) A c n 1 (λ d j t f. named-camp (outcomeAt o) d j t c n (sym f)) (λ k f. camp-not c n k f) in
-        (no-row s m o (camp c n) e, q .0, q .1),
-    λ h. tells s m o (camp c n) (λ b A. is-named s m o b A c n (h .1) (ap isOpen (h .2)) ∙ ap (λ (x : ℕ). cond (eqb x suitable) (camp c n) (read c n)) (h .2)) (h .0),
-  );
-  reads = λ c n. (
-    λ e.
-        let A = accepted-is s m o (read c n) e in
-        let q = names s m o (read c n) A c n 0 (λ d j t f. named-read (outcomeAt o) d j t c n (sym f)) (λ k f. read-not c n k f) in
-        (no-row s m o (read c n) e, q .0, q .1),
-    λ h. tells s m o (read c n) (λ b A. is-named s m o b A c n (h .1) (ap isOpen (h .2)) ∙ ap (λ (x : ℕ). cond (eqb x suitable) (camp c n) (read c n)) (h .2)) (h .0),
-  );
+  camps = named-exactly camp 1 refl (λ c n. refl) named-camp camp-not s m o;
+  reads = named-exactly read 0 refl (λ c n. refl) named-read read-not s m o;
   none = λ n. (
     λ e. let q = all-closed s m o (noBeam n) (accepted-is s m o (noBeam n) e) n refl in (no-row s m o (noBeam n) e, q .0, q .1),
-    λ h. tells s m o (noBeam n) (λ b A. closed-all s m o b A (h .1) ∙ ap noBeam (sym (h .2))) (h .0),
+    λ h. tells s m o (noBeam n) (λ a A. closed-all s m o a A (h .1) ∙ ap noBeam (sym (h .2))) (h .0),
   );
-  silent = λ N none. tells s m o (noBeam 0) (λ b A. silent s m o b A none) N;
+  silent = λ N none. tells s m o (noBeam 0) (λ a A. silent s m o a A none) N;
 }
 
 pub noBeamExactly : NoBeamExactly

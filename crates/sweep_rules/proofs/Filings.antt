@@ -1,13 +1,13 @@
--- Lists of filings. By the rule of one filing, an accepted one is one bit more in each map that it marks, and changes no level but its channel's;
--- so by induction on the list the record shows exactly the accepted filings.
+-- Every list of filings from a fresh record. A list grows at its end; by the rule of one filing an accepted one is one bit more in each map that it
+-- marks, and changes no level but its channel's, so the record shows exactly the accepted filings.
 use Prim.Native.Nat.{ℕ, zero, suc, _+_, _/_, _%_, _≤_, _<_}
 use mathlib.Core.Path.{_≡_, refl, sym, ap, _∙_, subst}
-use mathlib.Core.Bool.{Bool, true, false, cond, false≢true}
-use mathlib.Core.Logic.{_⊎_, inl, inr, ⊎-elim, _↔_}
-use mathlib.Core.List.{List, [], _∷_, List·Memᴰ, List·Memᴰ·head, List·Memᴰ·tail, List·Memᴰ·not-nil, List·Memᴰ·cases-cons}
-use native.Mathlib.Nat.{add-zero, zero-add}
+use mathlib.Core.Bool.{true, false}
+use mathlib.Core.Logic.{_⊎_, inl, inr, ⊎-elim, ⊎-map, _↔_}
+use mathlib.Core.List.{List, [], _∷_, _++_, map, map-append, append-nil, append-assoc, List·Memᴰ, List·Memᴰ·head}
+use mathlib.Core.List.{List·Memᴰ·tail, List·Memᴰ·not-nil, List·Memᴰ·cases-cons, Memᴰ·append-left, Memᴰ·append-right, List·Memᴰ·append-cases, List·Memᴰ·eq-of-singleton}
 use native.Mathlib.Omega.{arith}
-use lib.ListN.{length, getD, replicate, length-replicate}
+use lib.ListN.{length, getD, replicate, length-append, length-replicate}
 use lib.IntN.{ℤ, pos, negℤ}
 use lib.Signed.{_≤ℤ_, leZ-yes}
 use Rattle.refusal.specs.Told.{Told, refused, gives}
@@ -19,235 +19,185 @@ use Rattle.readings.specs.Ranges.{levelLow, levelHigh}
 use Rattle.readings.specs.Hundredths.{levelOf}
 use Rattle.readings.proofs.Bursts.{converted-in}
 use Rattle.sweep_rules.specs.Map.{channels, bitAt, isSet, setBits}
-use Rattle.sweep_rules.specs.Record.{visited, heard, levelAt, freshSweep, wellFormed}
-use Rattle.sweep_rules.specs.Filing.{leaves}
-use Rattle.sweep_rules.specs.Claims.{Typed, WellFormed, Accepts, Filed, Filing, told, after, isAccepted, acceptedOf, isHeard, heardOf, For, FiledFromFresh}
+use Rattle.sweep_rules.specs.Record.{visited, heard, levelAt, freshSweep}
+use Rattle.sweep_rules.specs.Filing.{filing, leaves}
+use Rattle.sweep_rules.specs.Claims.{Typed, WellFormed, Refuses, Accepts, Filed, Filing, after, acceptedOf, heardOf, For, FiledRecord, FiledFromFresh}
 use Rattle.sweep_rules.specs.declared.Sweep.{Sweep}
-use Rattle.sweep_rules.proofs.Tests.{which, same-or-not, fails, clash, same-test, many-none, many-more, many-same}
+use Rattle.sweep_rules.proofs.Tests.{same-or-not, fails, clash, same-test, many-none, many-more, many-same}
 use Rattle.sweep_rules.proofs.ReadRecord.{freshRule}
 use Rattle.sweep_rules.proofs.Levels.{no-bit}
-use Rattle.sweep_rules.proofs.Formed.{formed, level-ends, not-heard, wellFormedRule}
-use Rattle.sweep_rules.proofs.Refusals.{from-row}
+use Rattle.sweep_rules.proofs.Formed.{level-ends, not-heard, wellFormedRule}
+use Rattle.sweep_rules.proofs.Refusals.{to-row, from-row}
 use Rattle.sweep_rules.proofs.OneFiling.{Passed, passed, filingRule}
+use Rattle.sweep_rules.proofs.Sequences.{sequenceRule}
 
--- ---- what an accepted filing does
+-- -15,000 to 0
+abbrev Ends : ℤ → Type 0
+Ends z = (negℤ (pos 15000) ≤ℤ z) × (z ≤ℤ pos 0)
 
--- one bit more
-more-set : (m n : List ℕ) (c : ℕ) → c < 1088 → isSet m c ≡ false → ((d : ℕ) → (isSet n d ≡ true) ↔ ((isSet m d ≡ true) ⊎ (d ≡ c)))
-    → setBits n ≡ suc (setBits m)
+zero-ends : Ends (pos 0)
+zero-ends = (leZ-yes tt, leZ-yes tt)
+
+-- ---- an accepted filing leaves a well formed record
+
+module _ (s : Sweep) (c : ℕ) (b : Burst) (t : Sweep) (P : Passed s c) (F : Filed s c b t) where
+  -- by the burst
+  heard-more : (x : Burst) → b ≡ x → (d : ℕ) → heard t d ≡ true → (heard s d ≡ true) ⊎ (d ≡ c)
+  heard-more (Heard r) is d h = F .hears r is d .0 h
+  heard-more Missed is d h = inl (sym (F .misses is d) ∙ h)
+
+  heard-still : (x : Burst) → b ≡ x → (d : ℕ) → heard s d ≡ true → heard t d ≡ true
+  heard-still (Heard r) is d h = F .hears r is d .1 (inl h)
+  heard-still Missed is d h = F .misses is d ∙ h
+
+  other-level : (x : Burst) → b ≡ x → (d : ℕ) → ¬ (d ≡ c) → levelAt t d ≡ levelAt s d
+  other-level (Heard r) is d n = F .levelKept r is d n
+  other-level Missed is d n = F .levelsKept is d
+
+  own-level : (x : Burst) → b ≡ x → Ends (levelAt t c) × (heard t c ≡ false → levelAt t c ≡ pos 0)
+  own-level (Heard r) is = (
+    level-ends (levelAt t c) (converted-in levelLow levelHigh (r .level) (levelAt t c) (F .levelStored r is)),
+    λ n. absurd (clash (F .hears r is c .1 (inr refl)) n),
+  )
+  own-level Missed is = (subst Ends (sym (F .levelZero is)) zero-ends, λ n. F .levelZero is)
+
+  heard-visited : (d : ℕ) → d < 1088 → heard t d ≡ true → visited t d ≡ true
+  heard-visited d l h = F .visits d .1 (⊎-map (P .formed .heardVisited d l) (λ (q : d ≡ c). q) (heard-more b refl d h))
+
+  visited-inside : (d : ℕ) → d < 1088 → visited t d ≡ true → (2 ≤ d) × (d ≤ 1086)
+  visited-inside d l v = ⊎-elim
+      (λ (o : visited s d ≡ true). P .formed .visitedInside d l o)
+      (λ (q : d ≡ c). subst (λ (n : ℕ). (2 ≤ n) × (n ≤ 1086)) (sym q) (P .inside))
+      (F .visits d .0 v)
+
+  formed-after : WellFormed t
+  formed-after = record {
+    heardVisited = heard-visited;
+    visitedInside = visited-inside;
+    heardInside = λ d l h. visited-inside d l (heard-visited d l h);
+    levelZero = λ d l n. ⊎-elim
+        (λ (q : d ≡ c). ap (levelAt t) q ∙ own-level b refl .1 (sym (ap (heard t) q) ∙ n))
+        (λ (o : d ≡ c → ⊥). other-level b refl d o ∙ P .formed .levelZero d l (fails (heard s d) (λ h. clash (heard-still b refl d h) n)))
+        (same-or-not d c);
+    levelInRange = λ d l. ⊎-elim
+        (λ (q : d ≡ c). subst (λ (x : ℕ). Ends (levelAt t x)) (sym q) (own-level b refl .0))
+        (λ (o : d ≡ c → ⊥). subst Ends (sym (other-level b refl d o)) (P .formed .levelInRange d l))
+        (same-or-not d c);
+  }
+
+-- ---- a map and the filings that it marks
+
+-- the map marks exactly the channels of these filings, and has as many bits set
+record Marks (m : List ℕ) (fs : List Filing) : Type 0 where
+  number : setBits m ≡ length fs
+  channels : (c : ℕ) → (isSet m c ≡ true) ↔ For c fs
+
+marks-none : (m : List ℕ) → ((c : ℕ) → isSet m c ≡ false) → Marks m []
 unfolding setBits
-more-set m n c low clear is = many-more (isSet m) (isSet n) c clear (is c .1 (inr refl)) same channels low
-  where
-    same : (d : ℕ) → (d ≡ c → ⊥) → isSet m d ≡ isSet n d
-    same d other = same-test (isSet m d) (isSet n d)
-        (λ e. is d .1 (inl e))
-        (λ e. ⊎-elim (λ (o : isSet m d ≡ true). o) (λ (q : d ≡ c). absurd (other q)) (is d .0 e))
+marks-none m clear = record {
+  number = many-none (isSet m) channels clear;
+  channels = λ c. (λ e. absurd (clash e (clear c)), λ i. absurd (List·Memᴰ·not-nil i));
+}
 
-same-set : (m n : List ℕ) → ((d : ℕ) → isSet n d ≡ isSet m d) → setBits n ≡ setBits m
-unfolding setBits
-same-set m n same = many-same (isSet n) (isSet m) channels (λ d l. same d)
+-- one filing more
+module _ (m n : List ℕ) (fs : List Filing) (f : Filing) (M : Marks m fs) where
+  for-more : (c : ℕ) → For c fs ⊎ (c ≡ f .channel) → For c (fs ++ (f ∷ []))
+  for-more c o = subst (List·Memᴰ c) (sym (map-append (λ g. g .channel) fs (f ∷ []))) (⊎-elim
+      (λ (i : For c fs). Memᴰ·append-left (f .channel ∷ []) i)
+      (λ (q : c ≡ f .channel). Memᴰ·append-right (map (λ g. g .channel) fs) (List·Memᴰ·head q))
+      o)
 
-record Effect (s : Sweep) (f : Filing) (t : Sweep) : Type 0 where
-  typed : Typed t
-  formed : WellFormed t
-  visitedMore : setBits (t .visited) ≡ suc (setBits (s .visited))
-  heardMore : setBits (t .heard) ≡ cond (isHeard (f .burst)) (suc (setBits (s .heard))) (setBits (s .heard))
-  visitedIs : (d : ℕ) → (visited t d ≡ true) ↔ ((visited s d ≡ true) ⊎ (d ≡ f .channel))
-  heardIs : (d : ℕ) → (heard t d ≡ true) ↔ ((heard s d ≡ true) ⊎ ((d ≡ f .channel) × (isHeard (f .burst) ≡ true)))
-  levelKept : (d : ℕ) → visited s d ≡ true → levelAt t d ≡ levelAt s d
-  levelNew : (r : Reading) → f .burst ≡ Heard r → levelOf (r .level) ≡ gives (levelAt t (f .channel))
+  more-for : (c : ℕ) → For c (fs ++ (f ∷ [])) → For c fs ⊎ (c ≡ f .channel)
+  more-for c i = ⊎-map
+      (λ (j : For c fs). j)
+      (λ (j : List·Memᴰ c (f .channel ∷ [])). List·Memᴰ·eq-of-singleton j)
+      (List·Memᴰ·append-cases (map (λ g. g .channel) fs) (subst (List·Memᴰ c) (map-append (λ g. g .channel) fs (f ∷ [])) i))
 
-module _ (s : Sweep) (f : Filing) (t : Sweep) (P : Passed s (f .channel)) (F : Filed s (f .channel) (f .burst) t) where
+  marks-more : f .channel < 1088 → isSet m (f .channel) ≡ false → ((d : ℕ) → (isSet n d ≡ true) ↔ ((isSet m d ≡ true) ⊎ (d ≡ f .channel)))
+      → Marks n (fs ++ (f ∷ []))
+  unfolding setBits
+  marks-more low clear is = record {
+    number =
+        let k = M .number in
+        let l = length-append fs (f ∷ []) in
+        many-more (isSet m) (isSet n) (f .channel) clear (is (f .channel) .1 (inr refl)) same channels low ∙ omega arith;
+    channels = λ c. (
+      λ e. for-more c (⊎-map (M .channels c .0) (λ (q : c ≡ f .channel). q) (is c .0 e)),
+      λ i. is c .1 (⊎-map (M .channels c .1) (λ (q : c ≡ f .channel). q) (more-for c i)),
+    );
+  }
+    where
+      same : (d : ℕ) → (d ≡ f .channel → ⊥) → isSet m d ≡ isSet n d
+      same d other = same-test (isSet m d) (isSet n d)
+          (λ e. is d .1 (inl e))
+          (λ e. ⊎-elim (λ (o : isSet m d ≡ true). o) (λ (q : d ≡ f .channel). absurd (other q)) (is d .0 e))
+
+  marks-same : ((d : ℕ) → isSet n d ≡ isSet m d) → Marks n fs
+  unfolding setBits
+  marks-same same = record {
+    number = many-same (isSet n) (isSet m) channels (λ d l. same d) ∙ M .number;
+    channels = λ c. (λ e. M .channels c .0 (sym (same c) ∙ e), λ i. same c ∙ M .channels c .1 i);
+  }
+
+-- ---- the record and the accepted filings
+
+record Shows (s : Sweep) (accepted : List Filing) : Type 0 where
+  typed : Typed s
+  formed : WellFormed s
+  visits : Marks (s .visited) accepted
+  hears : Marks (s .heard) (heardOf accepted)
+  levels : (f : Filing) (r : Reading) → List·Memᴰ f accepted → f .burst ≡ Heard r → levelOf (r .level) ≡ gives (levelAt s (f .channel))
+
+-- one accepted filing more
+module _ (s : Sweep) (fs : List Filing) (S : Shows s fs) (f : Filing) (A : Accepts s (f .channel) (f .burst)) where
+  abbrev t : Sweep
+  t = leaves s (filing s (f .channel) (f .burst))
+
+  F : Filed s (f .channel) (f .burst) t
+  F = filingRule s (f .channel) (f .burst) .files A (S .typed)
+
+  P : Passed s (f .channel)
+  P = passed s (f .channel) (f .burst) A
+
   low : f .channel < 1088
   low = omega (arith, P .inside .1)
 
   silent : heard s (f .channel) ≡ false
-  silent = not-heard s (wellFormedRule s .1 (P .formed)) (f .channel) low (P .clear)
+  silent = not-heard s (wellFormedRule s .1 (S .formed)) (f .channel) low (P .clear)
 
-  seen-inside : (c : ℕ) → c < 1088 → visited t c ≡ true → (2 ≤ c) × (c ≤ 1086)
-  seen-inside c l v = ⊎-elim
-      (λ (o : visited s c ≡ true). P .formed .visitedInside c l o)
-      (λ (q : c ≡ f .channel). subst (λ (n : ℕ). (2 ≤ n) × (n ≤ 1086)) (sym q) (P .inside))
-      (F .visits c .0 v)
+  hears-after : (b : Burst) → f .burst ≡ b → Marks (t .heard) (heardOf (fs ++ (f ∷ [])))
+  hears-after (Heard r) is =
+      subst (Marks (t .heard)) (sym (sequenceRule .oneHeard fs f r is)) (marks-more (s .heard) (t .heard) (heardOf fs) f (S .hears) low silent (F .hears r is))
+  hears-after Missed is =
+      subst (Marks (t .heard)) (sym (sequenceRule .oneMissed fs f is)) (marks-same (s .heard) (t .heard) (heardOf fs) f (S .hears) (F .misses is))
 
-  other : (d : ℕ) → visited s d ≡ true → d ≡ f .channel → ⊥
-  other d v q = clash v (ap (visited s) q ∙ P .clear)
-
-  missed-effect : f .burst ≡ Missed → Effect s f t
-  missed-effect is =
-      let p = P .formed in
-      let hv : (c : ℕ) → c < 1088 → heard t c ≡ true → visited t c ≡ true
-      = λ c l h. F .visits c .1 (inl (p .heardVisited c l (sym (F .misses is c) ∙ h))) in
-      record {
-        typed = F .typed;
-        formed = record {
-          heardVisited = hv;
-          visitedInside = seen-inside;
-          heardInside = λ c l h. seen-inside c l (hv c l h);
-          levelZero = λ c l n. F .levelsKept is c ∙ p .levelZero c l (sym (F .misses is c) ∙ n);
-          levelInRange = λ c l. subst (λ (z : ℤ). (negℤ (pos 15000) ≤ℤ z) × (z ≤ℤ pos 0)) (sym (F .levelsKept is c)) (p .levelInRange c l);
-        };
-        visitedMore = more-set (s .visited) (t .visited) (f .channel) low (P .clear) (F .visits);
-        heardMore = same-set (s .heard) (t .heard) (F .misses is) ∙ ap (λ (x : Burst). cond (isHeard x) (suc (setBits (s .heard))) (setBits (s .heard))) (sym is);
-        visitedIs = F .visits;
-        heardIs = λ d. (
-          λ e. inl (sym (F .misses is d) ∙ e),
-          λ o. ⊎-elim
-              (λ (e : heard s d ≡ true). F .misses is d ∙ e)
-              (λ (q : (d ≡ f .channel) × (isHeard (f .burst) ≡ true)). absurd (clash (q .1) (ap isHeard is)))
-              o,
-        );
-        levelKept = λ d v. F .levelsKept is d;
-        levelNew = λ r e. absurd (clash (ap isHeard e) (ap isHeard is));
-      }
-
-  heard-effect : (r : Reading) → f .burst ≡ Heard r → Effect s f t
-  heard-effect r is =
-      let p = P .formed in
-      let hears = F .hears r is in
-      let kept = F .levelKept r is in
-      let is-heard : isHeard (f .burst) ≡ true = ap isHeard is in
-      let ends : ℤ → Type 0 = λ z. (negℤ (pos 15000) ≤ℤ z) × (z ≤ℤ pos 0) in
-      let here = level-ends (levelAt t (f .channel)) (converted-in levelLow levelHigh (r .level) (levelAt t (f .channel)) (F .levelStored r is)) in
-      let hv : (c : ℕ) → c < 1088 → heard t c ≡ true → visited t c ≡ true = λ c l h. F .visits c .1 (⊎-elim
-      (λ (o : heard s c ≡ true). inl (p .heardVisited c l o))
-      (λ (q : c ≡ f .channel). inr q)
-      (hears c .0 h)) in
-      record {
-        typed = F .typed;
-        formed = record {
-          heardVisited = hv;
-          visitedInside = seen-inside;
-          heardInside = λ c l h. seen-inside c l (hv c l h);
-          levelZero = λ c l n.
-              kept c (λ (q : c ≡ f .channel). clash (hears c .1 (inr q)) n) ∙ p .levelZero c l (fails (heard s c) (λ h. clash (hears c .1 (inl h)) n));
-          levelInRange = λ c l. ⊎-elim
-              (λ (q : c ≡ f .channel). subst (λ (n : ℕ). ends (levelAt t n)) (sym q) here)
-              (λ (n : c ≡ f .channel → ⊥). subst ends (sym (kept c n)) (p .levelInRange c l))
-              (same-or-not c (f .channel));
-        };
-        visitedMore = more-set (s .visited) (t .visited) (f .channel) low (P .clear) (F .visits);
-        heardMore =
-            more-set (s .heard) (t .heard) (f .channel) low silent hears
-            ∙ ap (λ (x : Bool). cond x (suc (setBits (s .heard))) (setBits (s .heard))) (sym is-heard);
-        visitedIs = F .visits;
-        heardIs = λ d. (
-          λ h. ⊎-elim (λ (o : heard s d ≡ true). inl o) (λ (q : d ≡ f .channel). inr (q, is-heard)) (hears d .0 h),
-          λ o. ⊎-elim
-              (λ (h : heard s d ≡ true). hears d .1 (inl h))
-              (λ (q : (d ≡ f .channel) × (isHeard (f .burst) ≡ true)). hears d .1 (inr (q .0)))
-              o,
-        );
-        levelKept = λ d v. kept d (other d v);
-        levelNew = F .levelStored;
-      }
-
--- an accepted filing has this effect
-effect : (s : Sweep) (f : Filing) (t : Sweep) → Typed s → told s f ≡ gives t → Effect s f t
-effect s f t typed e = by (f .burst) refl
-  where
-    A : Accepts s (f .channel) (f .burst)
-    A n row = gives-refused (sym e ∙ from-row s (f .channel) (f .burst) row)
-
-    F : Filed s (f .channel) (f .burst) t
-    F = subst (λ (a : Told Sweep). Filed s (f .channel) (f .burst) (leaves s a)) e (filingRule s (f .channel) (f .burst) .files A typed)
-
-    by : (b : Burst) → f .burst ≡ b → Effect s f t
-    by (Heard r) is = heard-effect s f t (passed s (f .channel) (f .burst) A) F r is
-    by Missed is = missed-effect s f t (passed s (f .channel) (f .burst) A) F is
-
--- ---- a list of filings
-
--- how the record t, after filings from s of which these are accepted, stands to s
-record Run (s : Sweep) (t : Sweep) (accepted : List Filing) : Type 0 where
-  typed : Typed t
-  formed : WellFormed t
-  numberVisited : setBits (t .visited) ≡ setBits (s .visited) + length accepted
-  numberHeard : setBits (t .heard) ≡ setBits (s .heard) + length (heardOf accepted)
-  channelsVisited : (c : ℕ) → (visited t c ≡ true) ↔ ((visited s c ≡ true) ⊎ For c accepted)
-  channelsHeard : (c : ℕ) → (heard t c ≡ true) ↔ ((heard s c ≡ true) ⊎ For c (heardOf accepted))
-  levelKept : (c : ℕ) → visited s c ≡ true → levelAt t c ≡ levelAt s c
-  levelFiled : (f : Filing) (r : Reading) → List·Memᴰ f accepted → f .burst ≡ Heard r → levelOf (r .level) ≡ gives (levelAt t (f .channel))
-
-module _ (s : Sweep) (f : Filing) (u t : Sweep) (more : List Filing) (one : Effect s f u) (rest : Run u t more) where
-  heard-number : setBits (t .heard) ≡ setBits (s .heard) + length (heardOf (f ∷ more))
-  unfolding heardOf
-  heard-number = by (isHeard (f .burst)) (one .heardMore)
+  -- a channel filed before is another one
+  filed-before : (g : Filing) → List·Memᴰ g fs → ¬ (g .channel ≡ f .channel)
+  filed-before g i q = clash (S .visits .channels (g .channel) .1 (mem-map fs i)) (ap (visited s) q ∙ P .clear)
     where
-      by : (b : Bool) → setBits (u .heard) ≡ cond b (suc (setBits (s .heard))) (setBits (s .heard)) → setBits (t .heard) ≡ setBits (s .heard) + length (cond b (f ∷ heardOf more) (heardOf more))
-      by true e = omega (arith, rest .numberHeard)
-      by false e = rest .numberHeard ∙ ap (λ (n : ℕ). n + length (heardOf more)) e
+      mem-map : (l : List Filing) → List·Memᴰ g l → For (g .channel) l
+      mem-map [] j = absurd (List·Memᴰ·not-nil j)
+      mem-map (h ∷ l) j = ⊎-elim
+          (λ (e : g ≡ h). List·Memᴰ·head (ap (λ (x : Filing). x .channel) e))
+          (λ (k : List·Memᴰ g l). List·Memᴰ·tail (mem-map l k))
+          (List·Memᴰ·cases-cons j)
 
-  heard-channels : (c : ℕ) → (heard t c ≡ true) ↔ ((heard s c ≡ true) ⊎ For c (heardOf (f ∷ more)))
-  unfolding heardOf
-  heard-channels c = by (isHeard (f .burst)) (one .heardIs c)
-    where
-      by : (b : Bool) → (heard u c ≡ true) ↔ ((heard s c ≡ true) ⊎ ((c ≡ f .channel) × (b ≡ true))) → (heard t c ≡ true) ↔ ((heard s c ≡ true) ⊎ For c (cond b (f ∷ heardOf more) (heardOf more)))
-      by true o = (
-        λ h. ⊎-elim
-            (λ (e : heard u c ≡ true). ⊎-elim (λ (g : heard s c ≡ true). inl g) (λ (q : (c ≡ f .channel) × (true ≡ true)). inr (List·Memᴰ·head (q .0))) (o .0 e))
-            (λ (m : For c (heardOf more)). inr (List·Memᴰ·tail m))
-            (rest .channelsHeard c .0 h),
-        λ g. ⊎-elim
-            (λ (e : heard s c ≡ true). rest .channelsHeard c .1 (inl (o .1 (inl e))))
-            (λ (m : For c (f ∷ heardOf more)). ⊎-elim (λ (q : c ≡ f .channel). rest .channelsHeard c .1 (inl (o .1 (inr (q, refl))))) (λ (n : For c (heardOf more)). rest .channelsHeard c .1 (inr n)) (List·Memᴰ·cases-cons m))
-            g,
-      )
-      by false o = (
-        λ h. ⊎-elim
-            (λ (e : heard u c ≡ true). ⊎-elim (λ (g : heard s c ≡ true). inl g) (λ (q : (c ≡ f .channel) × (false ≡ true)). absurd (false≢true (q .1))) (o .0 e))
-            (λ (m : For c (heardOf more)). inr m)
-            (rest .channelsHeard c .0 h),
-        λ g. ⊎-elim (λ (e : heard s c ≡ true). rest .channelsHeard c .1 (inl (o .1 (inl e)))) (λ (m : For c (heardOf more)). rest .channelsHeard c .1 (inr m)) g,
-      )
+  levels-after : (g : Filing) (r : Reading) → List·Memᴰ g (fs ++ (f ∷ [])) → g .burst ≡ Heard r → levelOf (r .level) ≡ gives (levelAt t (g .channel))
+  levels-after g r i is = ⊎-elim
+      (λ (j : List·Memᴰ g fs).
+      S .levels g r j is ∙ ap gives (sym (other-level s (f .channel) (f .burst) t P F (f .burst) refl (g .channel) (filed-before g j))))
+      (λ (j : List·Memᴰ g (f ∷ [])). let q : g ≡ f = List·Memᴰ·eq-of-singleton j in
+      F .levelStored r (sym (ap (λ (x : Filing). x .burst) q) ∙ is) ∙ ap (λ (x : Filing). gives (levelAt t (x .channel))) (sym q))
+      (List·Memᴰ·append-cases fs i)
 
-  one-then : Run s t (f ∷ more)
-  one-then = record {
-    typed = rest .typed;
-    formed = rest .formed;
-    numberVisited = omega (arith, rest .numberVisited, one .visitedMore);
-    numberHeard = heard-number;
-    channelsVisited = λ c. (
-      λ v. ⊎-elim
-          (λ (e : visited u c ≡ true). ⊎-elim (λ (g : visited s c ≡ true). inl g) (λ (q : c ≡ f .channel). inr (List·Memᴰ·head q)) (one .visitedIs c .0 e))
-          (λ (m : For c more). inr (List·Memᴰ·tail m))
-          (rest .channelsVisited c .0 v),
-      λ g. ⊎-elim
-          (λ (e : visited s c ≡ true). rest .channelsVisited c .1 (inl (one .visitedIs c .1 (inl e))))
-          (λ (m : For c (f ∷ more)). ⊎-elim (λ (q : c ≡ f .channel). rest .channelsVisited c .1 (inl (one .visitedIs c .1 (inr q)))) (λ (n : For c more). rest .channelsVisited c .1 (inr n)) (List·Memᴰ·cases-cons m))
-          g,
-    );
-    channelsHeard = heard-channels;
-    levelKept = λ c v. rest .levelKept c (one .visitedIs c .1 (inl v)) ∙ one .levelKept c v;
-    levelFiled = λ g r m b. ⊎-elim
-        (λ (q : g ≡ f). filed g q r b)
-        (λ (n : List·Memᴰ g more). rest .levelFiled g r n b)
-        (List·Memᴰ·cases-cons m);
+  shows-more : Shows t (fs ++ (f ∷ []))
+  shows-more = record {
+    typed = F .typed;
+    formed = formed-after s (f .channel) (f .burst) t P F;
+    visits = marks-more (s .visited) (t .visited) fs f (S .visits) low (P .clear) (F .visits);
+    hears = hears-after (f .burst) refl;
+    levels = levels-after;
   }
-    where
-      filed : (g : Filing) → g ≡ f → (r : Reading) → g .burst ≡ Heard r → levelOf (r .level) ≡ gives (levelAt t (g .channel))
-      filed g q r b =
-          one .levelNew r (sym (ap (λ (x : Filing). x .burst) q) ∙ b)
-          ∙ ap gives (sym (rest .levelKept (f .channel) (one .visitedIs (f .channel) .1 (inr refl))) ∙ ap (λ (x : Filing). levelAt t (x .channel)) (sym q))
-
-run : (fs : List Filing) (s : Sweep) → Typed s → WellFormed s → Run s (after s fs) (acceptedOf s fs)
-unfolding after acceptedOf heardOf
-run [] s typed w = record {
-  typed = typed;
-  formed = w;
-  numberVisited = sym (add-zero (setBits (s .visited)));
-  numberHeard = sym (add-zero (setBits (s .heard)));
-  channelsVisited = λ c. (λ v. inl v, λ o. ⊎-elim (λ (v : visited s c ≡ true). v) (λ (m : For c []). absurd (List·Memᴰ·not-nil m)) o);
-  channelsHeard = λ c. (λ v. inl v, λ o. ⊎-elim (λ (v : heard s c ≡ true). v) (λ (m : For c []). absurd (List·Memᴰ·not-nil m)) o);
-  levelKept = λ c v. refl;
-  levelFiled = λ f r m b. absurd (List·Memᴰ·not-nil m);
-}
-run (f ∷ fs) s typed w = by (run fs) (told s f) refl
-  where
-    by : ((u : Sweep) → Typed u → WellFormed u → Run u (after u fs) (acceptedOf u fs)) → (a : Told Sweep) → told s f ≡ a
-        → Run s (after (leaves s a) fs) (cond (isAccepted a) (f ∷ acceptedOf (leaves s a) fs) (acceptedOf (leaves s a) fs))
-    by more (gives u) e = let one = effect s f u typed e in one-then s f u (after u fs) (acceptedOf u fs) one (more u (one .typed) (one .formed))
-    by more (refused n) e = more s typed w
 
 -- ---- from a fresh record
 
@@ -256,60 +206,76 @@ getD-zeros zero i a = refl
 getD-zeros (suc n) zero a = refl
 getD-zeros (suc n) (suc i) a = getD-zeros n i a
 
-clear-map : (c : ℕ) → isSet (replicate 17 0) c ≡ false
+clear-map : (m : List ℕ) → m ≡ replicate 17 0 → (c : ℕ) → isSet m c ≡ false
 unfolding isSet
-clear-map c = ap (λ (w : ℕ). bitAt w (c % 64)) (getD-zeros 17 (c / 64) 0) ∙ no-bit (c % 64)
+clear-map m e c = ap (λ (x : List ℕ). bitAt (getD x (c / 64) 0) (c % 64)) e ∙ ap (λ (w : ℕ). bitAt w (c % 64)) (getD-zeros 17 (c / 64) 0) ∙ no-bit (c % 64)
 
-fresh-typed : Typed freshSweep
-fresh-typed = record {
-  levels = ap length (freshRule .levels) ∙ length-replicate 1088 (pos 0);
-  visited = ap length (freshRule .visited) ∙ length-replicate {A = ℕ} 17 0;
-  heard = ap length (freshRule .heard) ∙ length-replicate {A = ℕ} 17 0;
-}
+none-visited : (c : ℕ) → visited freshSweep c ≡ false
+none-visited = clear-map (freshSweep .visited) (freshRule .visited)
+
+none-heard : (c : ℕ) → heard freshSweep c ≡ false
+none-heard = clear-map (freshSweep .heard) (freshRule .heard)
 
 fresh-level : (c : ℕ) → levelAt freshSweep c ≡ pos 0
 fresh-level c = ap (λ (l : List ℤ). getD l c (pos 0)) (freshRule .levels) ∙ getD-zeros 1088 c (pos 0)
 
-none-visited : (c : ℕ) → visited freshSweep c ≡ false
-none-visited c = ap (λ (m : List ℕ). isSet m c) (freshRule .visited) ∙ clear-map c
-
-none-heard : (c : ℕ) → heard freshSweep c ≡ false
-none-heard c = ap (λ (m : List ℕ). isSet m c) (freshRule .heard) ∙ clear-map c
-
-fresh-parts : WellFormed freshSweep
-fresh-parts = record {
-  heardVisited = λ c l h. absurd (clash h (none-heard c));
-  visitedInside = λ c l v. absurd (clash v (none-visited c));
-  heardInside = λ c l h. absurd (clash h (none-heard c));
-  levelZero = λ c l n. fresh-level c;
-  levelInRange = λ c l. subst (λ (z : ℤ). (negℤ (pos 15000) ≤ℤ z) × (z ≤ℤ pos 0)) (sym (fresh-level c)) (leZ-yes tt, leZ-yes tt);
+fresh-shows : Shows freshSweep []
+unfolding heardOf
+fresh-shows = record {
+  typed = record {
+    levels = ap length (freshRule .levels) ∙ length-replicate 1088 (pos 0);
+    visited = ap length (freshRule .visited) ∙ length-replicate {A = ℕ} 17 0;
+    heard = ap length (freshRule .heard) ∙ length-replicate {A = ℕ} 17 0;
+  };
+  formed = record {
+    heardVisited = λ c l h. absurd (clash h (none-heard c));
+    visitedInside = λ c l v. absurd (clash v (none-visited c));
+    heardInside = λ c l h. absurd (clash h (none-heard c));
+    levelZero = λ c l n. fresh-level c;
+    levelInRange = λ c l. subst Ends (sym (fresh-level c)) zero-ends;
+  };
+  visits = marks-none (freshSweep .visited) none-visited;
+  hears = marks-none (freshSweep .heard) none-heard;
+  levels = λ f r i is. absurd (List·Memᴰ·not-nil i);
 }
 
-pub fresh-formed : wellFormed freshSweep ≡ true
-fresh-formed = formed freshSweep fresh-parts
+-- the record after a list, and its accepted filings
+abbrev ShowsAfter : List Filing → Type 0
+ShowsAfter fs = Shows (after freshSweep fs) (acceptedOf freshSweep fs)
 
-none-set : setBits (freshSweep .visited) ≡ 0
-unfolding setBits
-none-set = many-none (isSet (freshSweep .visited)) channels none-visited
+one-after : (fs : List Filing) (f : Filing) → ShowsAfter fs → ShowsAfter (fs ++ (f ∷ []))
+one-after fs f S = by (filing s (f .channel) (f .burst)) refl
+  where
+    s : Sweep
+    s = after freshSweep fs
 
-none-set-heard : setBits (freshSweep .heard) ≡ 0
-unfolding setBits
-none-set-heard = many-none (isSet (freshSweep .heard)) channels none-heard
+    by : (a : Told Sweep) → filing s (f .channel) (f .burst) ≡ a → ShowsAfter (fs ++ (f ∷ []))
+    by (gives u) e =
+        let A : Accepts s (f .channel) (f .burst) = λ n row. gives-refused (sym e ∙ from-row s (f .channel) (f .burst) row) in
+        subst (λ (x : Sweep). Shows x (acceptedOf freshSweep (fs ++ (f ∷ [])))) (sym (sequenceRule .oneMore freshSweep fs f))
+        (subst (Shows (leaves s (filing s (f .channel) (f .burst)))) (sym (sequenceRule .oneAccepted freshSweep fs f A))
+        (shows-more s (acceptedOf freshSweep fs) S f A))
+    by (refused n) e =
+        let row = to-row s (f .channel) (f .burst) n e in
+        subst (λ (x : Sweep). Shows x (acceptedOf freshSweep (fs ++ (f ∷ []))))
+        (sym (sequenceRule .oneMore freshSweep fs f ∙ filingRule s (f .channel) (f .burst) .refuses n row .1))
+        (subst (Shows s) (sym (sequenceRule .oneRefused freshSweep fs f n row)) S)
+
+-- these filings and then those
+all-after : (fs gs : List Filing) → ShowsAfter fs → ShowsAfter (fs ++ gs)
+all-after fs [] S = subst ShowsAfter (sym (append-nil fs)) S
+all-after fs (g ∷ gs) S = subst ShowsAfter (append-assoc fs (g ∷ []) gs) (all-after (fs ++ (g ∷ [])) gs (one-after fs g S))
 
 pub filedFromFresh : FiledFromFresh
 filedFromFresh fs =
-    let r = run fs freshSweep fresh-typed fresh-parts in
+    let none : ShowsAfter [] = subst (λ (x : Sweep). Shows x (acceptedOf freshSweep [])) (sym (sequenceRule .noneYet freshSweep))
+    (subst (Shows freshSweep) (sym (sequenceRule .noneAccepted freshSweep)) fresh-shows) in
+    let S = all-after [] fs none in
     record {
-      formed = r .formed;
-      numberVisited = r .numberVisited ∙ ap (λ (n : ℕ). n + length (acceptedOf freshSweep fs)) none-set ∙ zero-add (length (acceptedOf freshSweep fs));
-      numberHeard = r .numberHeard ∙ ap (λ (n : ℕ). n + length (heardOf (acceptedOf freshSweep fs))) none-set-heard ∙ zero-add (length (heardOf (acceptedOf freshSweep fs)));
-      channelsVisited = λ c. (
-        λ v. ⊎-elim (λ (e : visited freshSweep c ≡ true). absurd (clash e (none-visited c))) (λ (m : For c (acceptedOf freshSweep fs)). m) (r .channelsVisited c .0 v),
-        λ m. r .channelsVisited c .1 (inr m),
-      );
-      channelsHeard = λ c. (
-        λ v. ⊎-elim (λ (e : heard freshSweep c ≡ true). absurd (clash e (none-heard c))) (λ (m : For c (heardOf (acceptedOf freshSweep fs))). m) (r .channelsHeard c .0 v),
-        λ m. r .channelsHeard c .1 (inr m),
-      );
-      levelFiled = r .levelFiled;
+      formed = S .formed;
+      numberVisited = S .visits .number;
+      numberHeard = S .hears .number;
+      channelsVisited = S .visits .channels;
+      channelsHeard = S .hears .channels;
+      levelFiled = S .levels;
     }
