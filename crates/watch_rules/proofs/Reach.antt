@@ -35,6 +35,7 @@ use Rattle.watch_rules.proofs.Good.{levelsOk, rowFine, Good, good-fits,
 use Rattle.watch_rules.proofs.Encode.{rows-record, well-formed-record, read-record, Read}
 use Rattle.watch_rules.proofs.Calls.{called-record, refuse-later, first-watched}
 use Rattle.watch_rules.proofs.Steps.{channels-fine}
+use Rattle.watch_rules.proofs.Sequence.{after-more}
 use Rattle.watch_rules.proofs.Demand3.{linked}
 
 -- ---- rows that calls leave
@@ -48,10 +49,6 @@ left-good rs r =
     let l = linked (r .calls) in
     let one : l .held ≡ rs = sym (rows-record (l .held)) ∙ ap rows (sym (l .made) ∙ r .leave) ∙ rows-record rs in
     subst Good one (l .kept .good)
-
-after-more : (w : Watch) (ks : List Call) (k : Call) → afterFrom w (ks ++ k ∷ []) ≡ called (afterFrom w ks) k .watch
-after-more w [] k = refl
-after-more w (j ∷ ks) k = after-more (called w j .watch) ks k
 
 made-more : (ks : List Call) (k : Call) → AllCanBeMade ks → CanBeMade k → AllCanBeMade (ks ++ k ∷ [])
 made-more [] k a b = (b, tt)
