@@ -12,6 +12,8 @@ use lib.ListN.{length, take}
 use lib.Ieee.{binary32, fits}
 use mir.Syntax.{w16, w32}
 use mir.Val.{Fits, SFits}
+use Rattle.refusal.specs.declared.Refusal.{Refusal}
+use Rattle.refusal.specs.Number.{numberOf}
 use Rattle.refusal.specs.Told.{Told, refused, gives}
 use Rattle.refusal.specs.Claims.{OneToOne}
 use Rattle.readings.specs.declared.Burst.{Burst}
@@ -19,6 +21,7 @@ use Rattle.readings.specs.declared.Burst.the-variants.{Heard, Missed}
 use Rattle.readings.specs.Burst.{heard, burstOf}
 use Rattle.watch_rules.specs.declared.Track.{Track}
 use Rattle.watch_rules.specs.declared.Watch.{Watch}
+use Rattle.watch_rules.specs.declared.Answer.the-variants as says
 use Rattle.watch_rules.specs.Lists.{mem, timesIn, distinct, every, is, lastN, sum}
 use Rattle.watch_rules.specs.Limits.{depth}
 use Rattle.watch_rules.specs.Told.{Call, start, newList, move, file, ask, verdict, Given, accepted, levels, wait, stay, moveTo, told, toldHanded}
@@ -334,6 +337,15 @@ pub record WordsRule : Type 0 where
   pub same : (o : Option ℕ) (c : ℕ) → (is o c ≡ true) ↔ (o ≡ some c)
 
 -- ---- answers
+
+-- an answer tells what its name says, and a refusal its number
+pub record AnswersTold : Type 0 where
+  pub accepts : told says.Accepted ≡ gives accepted
+  pub asked : (count : ℕ) (mean : ℤ) → told (says.Levels count mean) ≡ gives (levels count mean)
+  pub waits : told says.Wait ≡ gives wait
+  pub stays : told says.Stay ≡ gives stay
+  pub moves : (c : ℕ) → told (says.MoveTo c) ≡ gives (moveTo c)
+  pub number : (why : Refusal) → told (says.Refused why) ≡ refused (numberOf why)
 
 -- what is told of an answer fixes its case and values, and so does what is told of what a call hands back
 pub record AnswersDiffer : Type 0 where

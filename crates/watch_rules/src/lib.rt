@@ -1,6 +1,6 @@
 // The neighbour watch: its record and what its calls answer. Document 01, sections The watch and The plain watch.
 // The rules, the plain watch and demand 3 stand in specs/; the calls stand in the crate `watch`.
-ghost use Rattle.watch_rules.specs.Claims.{Demand3, WellFormedIsReachable, ItFollows, Unchanged, UnformedRule, SequenceRule, PlainRule, LevelsRule, RefusalRule, AcceptedRule, AskRule, VerdictRule, PartRule, WordsRule, AnswersDiffer};
+ghost use Rattle.watch_rules.specs.Claims.{Demand3, WellFormedIsReachable, ItFollows, Unchanged, UnformedRule, SequenceRule, PlainRule, LevelsRule, RefusalRule, AcceptedRule, AskRule, VerdictRule, PartRule, WordsRule, AnswersTold, AnswersDiffer};
 use refusal::Refusal;
 
 // How many levels of a channel make a mean and a sum: older ones go.
@@ -65,5 +65,6 @@ pub fn claimed()
     ensures verdict { λ _. ⌜ VerdictRule ⌝ }
     ensures part { λ _. ⌜ PartRule ⌝ }
     ensures words { λ _. ⌜ WordsRule ⌝ }
-    ensures told { λ _. ⌜ AnswersDiffer ⌝ }
+    ensures told { λ _. ⌜ AnswersTold ⌝ }
+    ensures differ { λ _. ⌜ AnswersDiffer ⌝ }
 {}

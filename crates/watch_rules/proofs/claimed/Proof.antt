@@ -9,7 +9,7 @@ use Rattle.watch_rules.proofs.Sequence.{sequenceRule}
 use Rattle.watch_rules.proofs.PlainSteps.{plainRule}
 use Rattle.watch_rules.proofs.Verdict.{verdictRule, partRule}
 use Rattle.watch_rules.proofs.Mean.{askRule}
-use Rattle.watch_rules.proofs.Told.{answersDiffer}
+use Rattle.watch_rules.proofs.Told.{answersTold, answersDiffer}
 use Rattle.watch_rules.proofs.claimed.Statement.{statement}
 use Rattle.watch_rules.proofs.claimed.Tie as tie
 
@@ -28,7 +28,7 @@ returns c = (
             sequenceRule,
             (
               plainRule,
-              (levelsRule, (refusalRule, (acceptedRule, (askRule, (verdictRule, (partRule, (wordsRule, answersDiffer))))))),
+              (levelsRule, (refusalRule, (acceptedRule, (askRule, (verdictRule, (partRule, (wordsRule, (answersTold, answersDiffer)))))))),
             ),
           ),
         ),
