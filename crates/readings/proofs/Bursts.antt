@@ -22,7 +22,7 @@ use Rattle.readings.specs.Burst.{BurstResult, burstOf, bothOf, InRange}
 use Rattle.readings.specs.Code.{Near}
 use Rattle.readings.proofs.Near.{near-size, sizeOf}
 use Rattle.readings.proofs.Fields.{hundredths-near}
-use Rattle.readings.proofs.Range.{isNeg, order, by-size, zero-factor}
+use Rattle.readings.proofs.Signs.{isNeg, order, by-size, zero-factor}
 
 -- ---- a nearest whole number stays within whole bounds
 module _ (s : Bool) (a w d k : ℕ) (p : 0 < d) (n : Near s (100 * w) d k) where

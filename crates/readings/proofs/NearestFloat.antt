@@ -26,9 +26,10 @@ use Rattle.readings.specs.Hundredths.{signed, numerator, whereInRange}
 use Rattle.readings.specs.Float.{floatOf, shown}
 use Rattle.readings.specs.Claims.{awayFrom, ShowsNearest, ShownRule}
 use Rattle.readings.proofs.Fields.{times}
-use Rattle.readings.proofs.Range.{isNeg, signed-is, scaled, zero-factor, in-size}
+use Rattle.readings.proofs.Signs.{isNeg, signed-is, scaled, zero-factor}
+use Rattle.readings.proofs.Range.{in-size}
 use Rattle.readings.proofs.Rule.{gap, away, byCase, away-is, steps-apart}
-use Rattle.readings.proofs.Back.{dropped, keeps, grid, dropped-le, regroup, whole-step, round-value, float-is}
+use Rattle.readings.proofs.Quotient.{dropped, keeps, grid, dropped-le, regroup, whole-step, round-value, float-is}
 
 -- ---- the nearest whole number is within less than a half, where there is ne tie
 abbrev Close : ℕ → ℕ → ℕ → Type 0
