@@ -5,23 +5,26 @@ use mathlib.Core.Bool.{Bool, true, false, _&&_}
 use Prim.Native.Nat.{ℕ, _*_, _^_, _≤_, _<_, zero-le}
 use native.Mathlib.Nat.{zero-mul, mul-right-comm, mul-le-mul-right, le-of-mul-le-mul-right, le-trans, le-of-eq}
 use native.Mathlib.Omega.{arith}
-use lib.Dec.{T}
+use lib.Dec.{T, lit<}
 use lib.Pow.{pow-pos}
 use lib.IntN.{ℤ, pos, natAbs, _*ℤ_}
 use lib.Signed.{leZ}
 use lib.Ieee.{Float, nan, inf, fin, up, down, binary32, round}
-use lib.Ieee.Fits.{and-i, and-l, and-r}
+use lib.Ieee.Fits.{and-i}
 use lib.Ieee.Exact.{HasValue}
-use lib.Ieee.Bits.{is-true}
 use lib.Arith.{le-zero}
 use Rattle.refusal.specs.Told.{gives, refused}
 use Rattle.refusal.proofs.OneToOne.{gives-refused}
-use Rattle.readings.specs.Ranges.{inRange}
-use Rattle.readings.specs.Hundredths.{signed, within, converted, hundredthsOf, whereInRange}
+use Rattle.readings.specs.Ranges.{inHundredths, inRange, levelLow, levelHigh, qualityLow, qualityHigh, levelInRange, qualityInRange}
+use Rattle.readings.specs.Hundredths.{signed, within, converted, hundredthsOf, whereInRange, levelOf, qualityOf}
 use Rattle.readings.specs.Float.{floatOf, shown}
+use Rattle.readings.specs.Claims.{Between, ReadsBack, ReadBack}
+use Rattle.readings.proofs.Ranges.{in-words, by-words}
+use Rattle.readings.proofs.Conversion.{refused-outside, inside-gives, gives-inside}
 use Rattle.readings.proofs.Fields.{near-hundredths}
 use Rattle.readings.proofs.Signs.{isNeg, signed-is, order, by-size}
 use Rattle.readings.proofs.Range.{in-size}
+use Rattle.readings.proofs.NearestFloat.{float-single}
 use Rattle.readings.proofs.Quotient.{grid, near-grid, grid-le, grid-ge, round-value, float-is}
 
 -- ---- converted again
@@ -74,29 +77,38 @@ within-of lo hi (fin t m e) s n h v p q =
     subst (λ (y : Bool). T (leZ (lo *ℤ pos d) (signed y w) && leZ (signed y w) (hi *ℤ pos d))) (sym (v .0))
     (and-i (leZ (lo *ℤ pos d) (signed s w)) (leZ (signed s w) (hi *ℤ pos d)) low high)
 
--- The theorem. Hundredths in a range, shown as a float and converted, are the same hundredths.
-pub read-back : (lo hi h : ℤ) → natAbs lo < 656 → natAbs hi < 656 → T (inRange lo hi h) → converted lo hi (floatOf h) ≡ gives h
-unfolding converted
-read-back lo hi h a b t =
-    let p : T (leZ (lo *ℤ pos 100) h) = and-l (leZ (lo *ℤ pos 100) h) (leZ h (hi *ℤ pos 100)) t in
-    let q : T (leZ h (hi *ℤ pos 100)) = and-r (leZ (lo *ℤ pos 100) h) (leZ h (hi *ℤ pos 100)) t in
-    let l : natAbs h < 65536 = in-size lo hi h a b p q in
-    let inside : T (within lo hi (floatOf h)) =
-    subst (λ (x : Float). T (within lo hi x)) (sym (float-is h l))
-    (within-of lo hi (round binary32 (isNeg h) (natAbs h) 100) (isNeg h) (natAbs h) l (round-value (isNeg h) (natAbs h) l)
-    (subst (λ (z : ℤ). T (leZ (lo *ℤ pos 100) z)) (sym (signed-is h)) p)
-    (subst (λ (z : ℤ). T (leZ z (hi *ℤ pos 100))) (sym (signed-is h)) q)) in
-    ap (λ (y : Bool). whereInRange y (hundredthsOf (floatOf h))) (is-true (within lo hi (floatOf h)) inside) ∙ ap gives (hundredths-back h l)
-
--- the same of what `shown` tells: a float reads back as h, and a refusal stays
+-- Hundredths in a range, shown as a float and converted, are the same hundredths.
 module _ (lo hi h : ℤ) (a : natAbs lo < 656) (b : natAbs hi < 656) where
+  read-back : T (inRange lo hi h) → converted lo hi (floatOf h) ≡ gives h
+  unfolding converted
+  read-back t =
+      let w = in-words lo hi h t in
+      let l : natAbs h < 65536 = in-size lo hi h a b (w .lowest .le) (w .highest .le) in
+      let inside : T (within lo hi (floatOf h)) =
+      subst (λ (x : Float). T (within lo hi x)) (sym (float-is h l))
+      (within-of lo hi (round binary32 (isNeg h) (natAbs h) 100) (isNeg h) (natAbs h) l (round-value (isNeg h) (natAbs h) l)
+      (subst (λ (z : ℤ). T (leZ (lo *ℤ pos 100) z)) (sym (signed-is h)) (w .lowest .le))
+      (subst (λ (z : ℤ). T (leZ z (hi *ℤ pos 100))) (sym (signed-is h)) (w .highest .le))) in
+      inside-gives (hundredthsOf (floatOf h)) (within lo hi (floatOf h)) inside ∙ ap gives (hundredths-back h l)
+
+  reads : Between (inHundredths lo) (inHundredths hi) h → ReadsBack h (shown lo hi h) (converted lo hi) (whereInRange (inRange lo hi h) h)
+  unfolding shown
+  reads w =
+      let t : T (inRange lo hi h) = by-words lo hi h w in
+      record {
+        x = floatOf h;
+        is = inside-gives (floatOf h) (inRange lo hi h) t;
+        single = float-single h;
+        again = read-back t;
+        same = inside-gives h (inRange lo hi h) t;
+      }
+
+  -- for the calls: of what `shown` tells, a float reads back as h, and a refusal stays
   pub shown-back : (x : Float) → gives x ≡ shown lo hi h → converted lo hi x ≡ whereInRange (inRange lo hi h) h
   unfolding shown
-  shown-back x e = go (inRange lo hi h) (read-back lo hi h a b) e
-    where
-      go : (t : Bool) → (T t → converted lo hi (floatOf h) ≡ gives h) → gives x ≡ whereInRange t (floatOf h) → converted lo hi x ≡ whereInRange t h
-      go true f e = let same : x ≡ floatOf h = cc in ap (λ (y : Float). converted lo hi y) same ∙ f tt
-      go false f e = absurd (gives-refused e)
+  shown-back x e =
+      let i = gives-inside (floatOf h) (inRange lo hi h) (sym e) in
+      ap (converted lo hi) (sym (i .1)) ∙ read-back (i .0) ∙ sym (inside-gives h (inRange lo hi h) (i .0))
 
   pub refused-back : (n : ℕ) → refused n ≡ shown lo hi h → refused n ≡ whereInRange (inRange lo hi h) h
   unfolding shown
@@ -105,3 +117,18 @@ module _ (lo hi h : ℤ) (a : natAbs lo < 656) (b : natAbs hi < 656) where
       go : (t : Bool) → refused n ≡ whereInRange t (floatOf h) → refused n ≡ whereInRange t h
       go true e = absurd (gives-refused (sym e))
       go false e = let same : n ≡ 1 = cc in ap refused same
+
+pub readBack : ReadBack
+readBack = record {
+  level = λ h. reads levelLow levelHigh h (lit< tt) (lit< tt);
+  quality = λ h. reads qualityLow qualityHigh h (lit< tt) (lit< tt);
+  levelRefused = λ h. refused-outside h (levelInRange h) (in-words levelLow levelHigh h) (by-words levelLow levelHigh h);
+  qualityRefused = λ h. refused-outside h (qualityInRange h) (in-words qualityLow qualityHigh h) (by-words qualityLow qualityHigh h);
+}
+
+-- ---- for crates above: of the float itself, by the tests
+pub level-back : (h : ℤ) → levelInRange h ≡ true → levelOf (floatOf h) ≡ gives h
+level-back h e = read-back levelLow levelHigh h (lit< tt) (lit< tt) (subst T (sym e) tt)
+
+pub quality-back : (h : ℤ) → qualityInRange h ≡ true → qualityOf (floatOf h) ≡ gives h
+quality-back h e = read-back qualityLow qualityHigh h (lit< tt) (lit< tt) (subst T (sym e) tt)
