@@ -49,7 +49,7 @@ pub record RangeRule : Type 0 where
   pub channel : (c : ℕ) → (channelInRange c ≡ true) ↔ (c ≤ 1087)
   pub highest : channelHighest ≡ 1087
 
--- "1: a level or quality, as a float or in hundredths, is outside its range": refused exactly then, with this number
+-- refusal 1, "a level or quality, as a float or in hundredths, is outside its range": given exactly then
 abbrev pub RefusedOutside : {A : Type 0} → Type 0 → Told A → Type 0
 RefusedOutside Inside answer = (n : ℕ) → (answer ≡ refused n) ↔ ((n ≡ 1) × (¬ Inside))
 
@@ -82,7 +82,7 @@ pub record Converts (low high : ℤ) (x : Float) (answer : Told ℤ) : Type 0 wh
   pub refuses : RefusedOutside (Within low high x) answer
   pub nearest : (h : ℤ) → answer ≡ gives h → (n : ℤ) (d : ℕ) → Exactly x n d → NearestLower (pos 100 *ℤ n) d h
 
--- every float; "Minus zero is 0."
+-- for every float; "Minus zero is 0."
 pub record ConversionRule : Type 0 where
   pub level : (x : Float) → Converts (negℤ (pos 150)) (pos 0) x (levelOf x)
   pub quality : (x : Float) → Converts (negℤ (pos 30)) (pos 40) x (qualityOf x)
