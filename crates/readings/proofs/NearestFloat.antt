@@ -32,7 +32,7 @@ use Rattle.readings.proofs.Range.{in-size}
 use Rattle.readings.proofs.Rule.{gap, away, byCase, away-is, steps-apart}
 use Rattle.readings.proofs.Quotient.{dropped, keeps, grid, dropped-le, regroup, whole-step, round-value, float-is}
 
--- ---- the nearest whole number is within less than a half, where there is ne tie
+-- ---- the nearest whole number is within less than a half, where there is no tie
 abbrev Close : ℕ → ℕ → ℕ → Type 0
 Close a b k = (2 * (k * b) < 2 * a + b) × (2 * a < 2 * (k * b) + b)
 
@@ -70,7 +70,7 @@ module _ (a b k : ℕ) (c : Close a b k) where
       differ : eqb q k ≡ false → q ≡ k → ⊥
       differ e same = eqb-false q k e same
 
--- ---- ne tie: twice n times a multiple of 256 is ne odd multiple of 100
+-- ---- no tie: twice n times a multiple of 256 is no odd multiple of 100
 no-tie-at : (v q X r : ℕ) → 0 < X → q * (100 * X) + r ≡ v * 256 * X → r * 2 ≡ 100 * X → ⊥
 no-tie-at v q X r p e f = even (eq-of-mul-eq-mul-right X p (2 * (v * 256)) (2 * (q * 100) + 100) both)
   where
