@@ -19,7 +19,7 @@ use Rattle.readings.specs.Burst as readings
 use Rattle.readings.specs.Burst.{burstOf, bothOf, InRange}
 use Rattle.readings.specs.Ranges.{levelInRange}
 use Rattle.readings.specs.Hundredths.{levelOf, qualityOf}
-use Rattle.readings.proofs.Claims.{burstInRange}
+use Rattle.readings.proofs.Bursts.{burst-in-range}
 use Rattle.sweep_rules.specs.Map.{channels, words, bitAt, isSet, withBit, setBits}
 use Rattle.sweep_rules.specs.Record.{swept, visited, heard, levelAt, freshSweep, wellFormed}
 use Rattle.sweep_rules.specs.Filing.{withMissed, withHeard, withBurst, leaves}
@@ -152,7 +152,7 @@ module _ (s : Sweep) (f : Filing) (typed : Typed s) (w : wellFormed s ≡ true) 
 
   burst-by : (b : Burst) (t : Sweep) → f .burst ≡ b → withBurst s (f .channel) (burstOf b) ≡ gives t → Effect s f t
   unfolding withBurst
-  burst-by (Heard r) t b e = heard-by r t b (levelOf (r .level)) (qualityOf (r .quality)) refl (burstInRange (Heard r)) e
+  burst-by (Heard r) t b e = heard-by r t b (levelOf (r .level)) (qualityOf (r .quality)) refl (burst-in-range (Heard r)) e
   burst-by Missed t b e = subst (Effect s f) (same-sweep (gives (withMissed s (f .channel))) (withMissed s (f .channel)) t refl e) (missed-effect b)
 
 -- an accepted filing has this effect
