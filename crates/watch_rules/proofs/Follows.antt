@@ -5,12 +5,11 @@ use mathlib.Core.Path.{_≡_, sym, ap, _∙_}
 use mathlib.Core.Bool.{Bool, true, false}
 use mathlib.Core.List.{List, _∷_, List·Memᴰ, List·Memᴰ·head, List·Memᴰ·tail}
 use native.Mathlib.Omega.{arith}
-use lib.IntN.{ℤ, pos, negℤ}
-use lib.Signed.{leZ, _≤ℤ_}
 use lib.ListN.{length, take}
 use borrow.Author.Tests.{leb-true}
 use Rattle.readings.specs.Channels.{channelInRange}
 use Rattle.readings.specs.Ranges.{levelInRange}
+use Rattle.readings.proofs.Ranges.{rangeRule}
 use Rattle.watch_rules.specs.declared.Watch.{Watch}
 use Rattle.watch_rules.specs.Lists.{every}
 use Rattle.watch_rules.specs.Told.{Call}
@@ -25,7 +24,6 @@ use Rattle.watch_rules.proofs.Words.{distinct-times, every-times}
 use Rattle.watch_rules.proofs.Good.{levelsOk, Good, good-fits, few-levels, ranged-levels}
 use Rattle.watch_rules.proofs.Encode.{read-record}
 use Rattle.watch_rules.proofs.Calls.{called-unformed, tested-unformed, tested-formed}
-use Rattle.watch_rules.proofs.Order.{le-yes}
 use Rattle.watch_rules.proofs.Relist.{levels-fine}
 use Rattle.watch_rules.proofs.Steps.{channels-fine}
 use Rattle.watch_rules.proofs.Demand3.{count-record}
@@ -37,12 +35,6 @@ use Rattle.watch_rules.proofs.Reach.{left-formed, wellFormedIsReachable
 each-of : {A : Type 0} (f : A → Bool) (x : A) (l : List A) → every f l ≡ true → List·Memᴰ x l → f x ≡ true
 each-of f x (y ∷ l) e (List·Memᴰ·head q) = ap f q ∙ and-left (f y) (every f l) e
 each-of f x (y ∷ l) e (List·Memᴰ·tail d) = each-of f x l (and-right (f y) (every f l) e) d
-
-level-bounds : (x : ℤ) → levelInRange x ≡ true → (negℤ (pos 15000) ≤ℤ x) × (x ≤ℤ pos 0)
-level-bounds x e = (
-  le-yes (negℤ (pos 15000)) x (and-left (leZ (negℤ (pos 15000)) x) (leZ x (pos 0)) e),
-  le-yes x (pos 0) (and-right (leZ (negℤ (pos 15000)) x) (leZ x (pos 0)) e),
-)
 
 formed-follows : (w : Watch) → wellFormed w ≡ true → Follows w
 formed-follows w f =
@@ -57,7 +49,7 @@ formed-follows w f =
           let n : countOf c (take (w .watched) (w .tracks)) ≡ length (levelsOf c (rows w)) =
           ap (λ (x : Watch). countOf c (take (x .watched) (x .tracks))) (sym (read-record w f .back)) ∙ count-record c (rows w) in
           omega (arith, n, few-levels (levelsOf c (rows w)) (fine c), depth-is);
-      levels = λ c x m. level-bounds x (each-of levelInRange x (levelsOf c (rows w)) (ranged-levels (levelsOf c (rows w)) (fine c)) m);
+      levels = λ c x m. rangeRule .level x .0 (each-of levelInRange x (levelsOf c (rows w)) (ranged-levels (levelsOf c (rows w)) (fine c)) m);
     }
 
 pub itFollows : ItFollows

@@ -6,7 +6,7 @@ use mathlib.Core.Bool.{Bool, true, false, cond}
 use mathlib.Core.List.{List, [], _∷_, _++_, List·Memᴰ}
 use mathlib.Core.Option.{Option, some}
 use lib.Dec.{T, eqb}
-use lib.IntN.{ℤ, pos, negℤ, _+ℤ_, _*ℤ_}
+use lib.IntN.{ℤ, pos, _+ℤ_, _*ℤ_}
 use lib.Signed.{_≤ℤ_, _<ℤ_}
 use lib.ListN.{length, take}
 use lib.Ieee.{binary32, fits}
@@ -19,6 +19,7 @@ use Rattle.refusal.specs.Claims.{OneToOne}
 use Rattle.readings.specs.declared.Burst.{Burst}
 use Rattle.readings.specs.declared.Burst.the-variants.{Heard, Missed}
 use Rattle.readings.specs.Burst.{heard, burstOf}
+use Rattle.readings.specs.Claims.{LevelInRange}
 use Rattle.watch_rules.specs.declared.Track.{Track}
 use Rattle.watch_rules.specs.declared.Watch.{Watch}
 use Rattle.watch_rules.specs.declared.Answer.the-variants as says
@@ -186,7 +187,7 @@ pub record Follows (w : Watch) : Type 0 where
   pub differ : (c : ℕ) → timesIn c (channels (rows w)) ≤ 1
   pub inRange : (c : ℕ) → 0 < timesIn c (channels (rows w)) → c ≤ 1087
   pub counts : (c : ℕ) → countOf c (take (w .watched) (w .tracks)) ≤ 15
-  pub levels : (c : ℕ) (x : ℤ) → List·Memᴰ x (levelsOf c (rows w)) → (negℤ (pos 15000) ≤ℤ x) × (x ≤ℤ pos 0)
+  pub levels : (c : ℕ) (x : ℤ) → List·Memᴰ x (levelsOf c (rows w)) → LevelInRange x
 
 abbrev pub ItFollows : Type 0
 ItFollows = (ks : List Call) → Follows (afterFrom fresh ks)
