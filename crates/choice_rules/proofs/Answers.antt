@@ -10,20 +10,15 @@ use native.Mathlib.Nat.{not-suc-le-zero}
 use native.Mathlib.Omega.{arith}
 use lib.ListN.{length, getD, length-append, List·getD-append}
 use lib.IntN.{ℤ}
-use lib.Dec.{eqb, leb}
-use borrow.Author.Tests.{eqb-true, eq-eqb, ne-eqb, leb-true}
-use Rattle.refusal.specs.Told.{gives}
-use Rattle.refusal.proofs.OneToOne.{gives-refused}
-use Rattle.sweep_rules.specs.Map.{channels}
-use Rattle.sweep_rules.specs.Record.{levelAt, everyChannel, finished, wellFormed}
+use lib.Dec.{eqb}
+use borrow.Author.Tests.{eqb-true, eq-eqb, ne-eqb}
+use Rattle.sweep_rules.specs.Record.{levelAt}
 use Rattle.sweep_rules.specs.declared.Sweep.{Sweep}
-use Rattle.sweep_rules.proofs.Tests.{which, clash, left, right, all-each}
+use Rattle.sweep_rules.proofs.Tests.{which, clash}
 use Rattle.choice_rules.specs.Order.{searchOrder, nearPart}
-use Rattle.choice_rules.specs.Choose.{notRead, suitable, highestOutcome, outcomeAt, outcomesFine, marginInRange, Chosen, camp, read, noBeam, firstOpen, placeIn, answerOf, chosenAmong, chosen, choosing}
+use Rattle.choice_rules.specs.Choose.{notRead, suitable, outcomeAt, Chosen, camp, read, noBeam, firstOpen, placeIn, answerOf, chosenAmong}
 use Rattle.choice_rules.specs.Code.{All}
-use Rattle.choice_rules.specs.Claims.{Unsuitable}
 use Rattle.choice_rules.proofs.Ranked.{near-begins}
-use Rattle.choice_rules.proofs.Endings.{says-9, says-8, says-7, says-4, says-chosen}
 
 -- not read yet, or suitable
 abbrev pub isOpen : ℕ → Bool
@@ -141,43 +136,3 @@ unfolding chosenAmong nearPart
 chosen-at test s m o =
     let p = near-begins (levelAt s) m (searchOrder test s) in
     answer-at (outcomeAt o) (searchOrder test s) (nearPart test s m) (p .0) (p .1)
-
--- ---- an accepted choice
-
-pub record Accepted (s : Sweep) (m : ℤ) (o : List ℕ) (a : Chosen) : Type 0 where
-  pub formed : wellFormed s ≡ true
-  pub fine : outcomesFine o ≡ true
-  pub margin : marginInRange m ≡ true
-  pub done : finished s ≡ true
-  pub is : chosen s m o ≡ a
-
-pub accepted-is : (s : Sweep) (m : ℤ) (o : List ℕ) (a : Chosen) → choosing s m o ≡ gives a → Accepted s m o a
-accepted-is s m o a e =
-    let w = holds (wellFormed s) (λ z. gives-refused (sym (says-9 s m o z ∙ e))) in
-    let f = holds (outcomesFine o) (λ z. gives-refused (sym (says-8 s m o w z ∙ e))) in
-    let r = holds (marginInRange m) (λ z. gives-refused (sym (says-7 s m o w f z ∙ e))) in
-    let d = holds (finished s) (λ z. gives-refused (sym (says-4 s m o w f r z ∙ e))) in
-    record { formed = w; fine = f; margin = r; done = d; is = given (chosen s m o) (says-chosen s m o w f r d ∙ e) }
-  where
-    holds : (b : Bool) → (b ≡ false → ⊥) → b ≡ true
-    holds true n = refl
-    holds false n = absurd (n refl)
-
-    given : (c : Chosen) → gives c ≡ gives a → c ≡ a
-    given c q = cc
-
-pub accepts : (s : Sweep) (m : ℤ) (o : List ℕ) (a : Chosen) → Accepted s m o a → choosing s m o ≡ gives a
-accepts s m o a A = sym (says-chosen s m o (A .formed) (A .fine) (A .margin) (A .done)) ∙ ap gives (A .is)
-
--- ---- outcome bytes
-
-pub fine-length : (o : List ℕ) → outcomesFine o ≡ true → length o ≡ channels
-unfolding outcomesFine
-fine-length o e = eqb-true (length o) channels (left (eqb (length o) channels) (everyChannel (λ c. leb (outcomeAt o c) highestOutcome)) e)
-
-pub fine-at : (o : List ℕ) → outcomesFine o ≡ true → (c : ℕ) → c < channels → outcomeAt o c ≤ highestOutcome
-unfolding outcomesFine
-fine-at o e c h = leb-true (outcomeAt o c) highestOutcome (all-each channels (λ d. leb (outcomeAt o d) highestOutcome) (right (eqb (length o) channels) (everyChannel (λ d. leb (outcomeAt o d) highestOutcome)) e) c h)
-
-pub unsuitable : (o : List ℕ) → outcomesFine o ≡ true → (c : ℕ) → c < channels → isOpen (outcomeAt o c) ≡ false → Unsuitable o c
-unsuitable o e c h q = (closed-above (outcomeAt o c) q, fine-at o e c h)

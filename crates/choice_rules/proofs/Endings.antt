@@ -22,7 +22,7 @@ use Rattle.sweep_rules.specs.Next.{Next, done, nextOf, nextTold}
 use Rattle.sweep_rules.specs.Told.{toldNext}
 use Rattle.sweep_rules.proofs.NextChannel.{the-type}
 use Rattle.sweep_rules.proofs.Tests.{which, fails}
-use Rattle.sweep_rules.proofs.Claims.{nextLowest}
+use Rattle.sweep_rules.proofs.Lowest.{finished-done}
 use Rattle.choice_rules.specs.Choose.{outcomesFine, marginInRange, chosen, choosing}
 
 -- ---- the answers, in the paper's order
@@ -80,7 +80,7 @@ module _ (s : Sweep) where
       by (next.Refused r) q t = ⊎-elim (λ z. omega arith) (λ z. omega arith) t
 
   pub next-unfinished : (a : NextChannel) → wellFormed s ≡ true → toldNext a ≡ nextTold s → OneOf (0 ∷ 2 ∷ []) (Declared.tagOf the-type a) → finished s ≡ false
-  next-unfinished a w e k = fails (finished s) (λ d. by a (e ∙ told-formed w ∙ ap gives (nextLowest s .finishedDone .0 d)) k)
+  next-unfinished a w e k = fails (finished s) (λ d. by a (e ∙ told-formed w ∙ ap gives (finished-done s .0 d)) k)
     where
       by : (b : NextChannel) → toldNext b ≡ gives done → OneOf (0 ∷ 2 ∷ []) (Declared.tagOf the-type b) → ⊥
       by (next.Channel c) q t = let z : _≡_ {A = ℕ} 0 1 = cc in omega arith
@@ -88,7 +88,7 @@ module _ (s : Sweep) where
       by (next.Refused r) q t = gives-refused (sym q)
 
   pub next-finished : (a : NextChannel) → wellFormed s ≡ true → toldNext a ≡ nextTold s → a ≡ next.Done → finished s ≡ true
-  next-finished a w e q = nextLowest s .finishedDone .1 (given (nextOf s) (sym (told-formed w) ∙ sym e ∙ ap toldNext q))
+  next-finished a w e q = finished-done s .1 (given (nextOf s) (sym (told-formed w) ∙ sym e ∙ ap toldNext q))
     where
       given : (n : Next) → gives n ≡ gives done → n ≡ done
       given n p = cc

@@ -18,7 +18,7 @@ use Rattle.sweep_rules.specs.Map.{channels}
 use Rattle.sweep_rules.specs.Record.{levelAt, wellFormed}
 use Rattle.sweep_rules.specs.declared.Sweep.{Sweep}
 use Rattle.sweep_rules.proofs.Tests.{which, left, right, same-test}
-use Rattle.sweep_rules.proofs.Formed.{wellFormedRule}
+use Rattle.sweep_rules.proofs.Formed.{level-range, wellFormedRule}
 use Rattle.choice_rules.specs.Order.{sortBy, comesBefore, channelsThat, searchOrder, atMostBelow, nearOf, nearPart}
 use Rattle.choice_rules.specs.Choose.{notRead, suitable, outcomeAt, marginLowest, noBeam, chosenAmong}
 use Rattle.choice_rules.specs.Code.{depth, keyStep, keyOf, keysOf, passed, All, Apart, Keyed, nearKeys, walkOver, walked}
@@ -142,7 +142,7 @@ module _ (level : ℕ → ℤ) where
 
 module _ (test : ℕ → Bool) (s : Sweep) (w : wellFormed s ≡ true) where
   ranged : (cs : List ℕ) → All (Passes test) cs → All (Ranged (levelAt s)) cs
-  ranged cs a = all-map cs (λ c p. (p .0, wellFormedRule s .0 w .levelRange c (p .0))) a
+  ranged cs a = all-map cs (λ c p. (p .0, level-range s (wellFormedRule s .0 w) c (p .0))) a
 
   all-ranged : All (Ranged (levelAt s)) (channelsThat test)
   all-ranged = ranged (channelsThat test) (listed test)

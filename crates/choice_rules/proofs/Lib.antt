@@ -3,9 +3,9 @@ pub mod Whole
 pub mod Lists
 pub mod Ranked
 pub mod Endings
+pub mod Refusals
 pub mod Answers
 pub mod Claims
-pub mod Refusals
 pub mod KeyOrder
 pub mod Depths
 pub mod Gathered

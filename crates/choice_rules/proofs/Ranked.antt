@@ -9,32 +9,23 @@ use native.Mathlib.Nat.{eq-or-lt-of-le, lt-irrefl}
 use native.Mathlib.Omega.{arith}
 use lib.ListN.{getD}
 use lib.IntN.{ℤ, _-ℤ_}
-use lib.Signed.{leZ, ltZ, _≤ℤ_, _<ℤ_}
+use lib.Signed.{leZ, ltZ, _<ℤ_}
 use lib.Dec.{T, ltb}
 use borrow.Author.Tests.{lt-ltb, ltb-true, ltb-false}
 use Rattle.sweep_rules.specs.Map.{channels}
 use Rattle.sweep_rules.specs.Record.{levelAt}
 use Rattle.sweep_rules.specs.declared.Sweep.{Sweep}
 use Rattle.sweep_rules.proofs.Tests.{which, clash}
+use Rattle.sweep_rules.proofs.Levels.{le-fact, fact-le}
 use Rattle.choice_rules.specs.Order.{from, beginning, comesBefore, channelsThat, searchOrder, atMostBelow, nearOf, nearPart}
 use Rattle.choice_rules.specs.Code.{All}
 use Rattle.choice_rules.specs.Claims.{Passes, Before, OrderRule, Strongest, WithinMargin, NearRule}
 use Rattle.choice_rules.proofs.Whole.{above, below, le-parts, parts-le, lt-parts, parts-lt, not-lt-parts, parts-not-lt, parts-same, sub-parts}
 use Rattle.choice_rules.proofs.Lists.{all-map, all-mem, all-keep, mem-keep, all-from, mem-from, apart-from, begin-prefix, begin-passes, all-sort, mem-sort, Sorted, sorted-at, Ordering, sort-sorted}
 
--- ---- tests and facts
+-- ---- a test as a fact
 
-pub le-fact : {x y : ℤ} → leZ x y ≡ true → x ≤ℤ y
-le-fact e = record { le = subst T (sym e) tt }
-
-test-of : (b : Bool) → T b → b ≡ true
-test-of true t = refl
-test-of false t = absurd t
-
-pub fact-le : {x y : ℤ} → x ≤ℤ y → leZ x y ≡ true
-fact-le {x} {y} h = test-of (leZ x y) (h .le)
-
-pub lt-fact : {x y : ℤ} → ltZ x y ≡ true → x <ℤ y
+lt-fact : {x y : ℤ} → ltZ x y ≡ true → x <ℤ y
 lt-fact e = record { lt = subst T (sym e) tt }
 
 -- ---- the two keys

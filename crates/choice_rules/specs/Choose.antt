@@ -31,7 +31,7 @@ highestOutcome = unreadable
 
 -- the outcome byte of channel c
 abbrev pub outcomeAt : List ℕ → ℕ → ℕ
-outcomeAt o c = getD o c notRead
+outcomeAt o c = getD o c 0
 
 -- a string of 1,088 outcome bytes, each in range; those of channels not heard too
 unfoldable pub outcomesFine : List ℕ → Bool

@@ -1,4 +1,4 @@
--- What is claimed of the choice beyond the call's contract; proved in `proofs/Claims.antt` under the same names.
+-- What is claimed of the choice beyond the call's contract, in document 01's words and numbers; proved in `proofs/Claims.antt` under the same names.
 use Prim.Native.Nat.{ℕ, suc, _≤_, _<_}
 use mathlib.Core.Path.{_≡_}
 use mathlib.Core.Bool.{Bool, true}
@@ -7,31 +7,29 @@ use mathlib.Core.List.{List, List·Memᴰ, IsPrefix}
 use lib.ListN.{getD, length}
 use lib.IntN.{ℤ, pos, _-ℤ_}
 use lib.Signed.{_≤ℤ_, _<ℤ_}
+use Rattle.refusal.specs.declared.Refusal.{Refusal}
+use Rattle.refusal.specs.Number.{numberOf}
 use Rattle.refusal.specs.Told.{refused, gives}
 use Rattle.refusal.specs.Claims.{OneToOne}
-use Rattle.sweep_rules.specs.Map.{channels}
-use Rattle.sweep_rules.specs.Record.{visited, heard, levelAt}
-use Rattle.sweep_rules.specs.Claims.{WellFormed}
+use Rattle.sweep_rules.specs.Record.{heard, levelAt}
+use Rattle.sweep_rules.specs.Claims.{WellFormed, Finished}
 use Rattle.sweep_rules.specs.declared.Sweep.{Sweep}
 use Rattle.choice_rules.specs.Order.{searchOrder, nearPart}
-use Rattle.choice_rules.specs.Choose.{outcomeAt, outcomesFine, Chosen, camp, read, noBeam, choosing}
+use Rattle.choice_rules.specs.Choose.{Chosen, camp, read, noBeam, choosing}
 use Rattle.choice_rules.specs.Told.{toldChoice}
+use Rattle.choice_rules.specs.declared.Choice.the-variants as choice
 
 -- ---- the refusals in document 01's words
 
--- "a lent string of 1,088 outcome bytes": each 0 to 5, those of channels not heard too
+-- "a lent string of 1,088 outcome bytes", that of channel c at place c: each 0 to 5, those of channels not heard too
 pub record OutcomesInRange (o : List ℕ) : Type 0 where
   pub long : length o ≡ 1088
-  pub bytes : (c : ℕ) → c < 1088 → outcomeAt o c ≤ 5
+  pub bytes : (c : ℕ) → c < 1088 → getD o c 0 ≤ 5
 
 -- "a margin of 0 to 6,000 hundredths"
 pub record MarginInRange (m : ℤ) : Type 0 where
   pub lowest : pos 0 ≤ℤ m
   pub highest : m ≤ℤ pos 6000
-
--- every channel of 2 to 1,086 is visited
-abbrev pub Finished : Sweep → Type 0
-Finished s = (c : ℕ) → 2 ≤ c → c ≤ 1086 → visited s c ≡ true
 
 -- the table: a choice is refused with this number. "Several at once: 9, 8, 7, .. 4, ..": a later number only where no earlier one is given
 pub data Refuses (s : Sweep) (m : ℤ) (o : List ℕ) : ℕ → Type 0 where
@@ -48,11 +46,15 @@ pub data Refuses (s : Sweep) (m : ℤ) (o : List ℕ) : ℕ → Type 0 where
 abbrev pub RefusalRule : Type 0
 RefusalRule = (s : Sweep) (m : ℤ) (o : List ℕ) (n : ℕ) → (choosing s m o ≡ refused n) ↔ Refuses s m o n
 
+-- the table has no number for the choice
+abbrev pub Accepts : Sweep → ℤ → List ℕ → Type 0
+Accepts s m o = (n : ℕ) → ¬ (Refuses s m o n)
+
 -- ---- the search order, over the channels that pass a test
 
 -- the channel is one of those
 abbrev pub Passes : (ℕ → Bool) → ℕ → Type 0
-Passes test c = (c < channels) × (test c ≡ true)
+Passes test c = (c < 1088) × (test c ≡ true)
 
 -- by falling level, equal levels by rising channel number
 abbrev pub Before : Sweep → ℕ → ℕ → Type 0
@@ -93,20 +95,25 @@ NearPartRule = (s : Sweep) (m : ℤ) → NearRule (heard s) s m
 
 -- read, and not suitable: an outcome of 2 to 5
 abbrev pub Unsuitable : List ℕ → ℕ → Type 0
-Unsuitable o c = (2 ≤ outcomeAt o c) × (outcomeAt o c ≤ 5)
+Unsuitable o c = (2 ≤ getD o c 0) × (getD o c 0 ≤ 5)
 
--- c is the first near channel with an outcome of 0 or 1, and n its place in the search order, counted from 1
+-- n is the place of c in the search order, counted from 1, within the near part, and each channel before it was read and does not suit
 pub record Named (s : Sweep) (m : ℤ) (o : List ℕ) (c n : ℕ) : Type 0 where
   pub near : List·Memᴰ c (nearPart (heard s) s m)
   pub place : (j : ℕ) × (n ≡ suc j) × (j < length (nearPart (heard s) s m)) × (getD (searchOrder (heard s) s) j 0 ≡ c)
   pub first : (i : ℕ) → suc i < n → Unsuitable o (getD (searchOrder (heard s) s) i 0)
 
+-- "Take the first near channel with outcome 0 or 1.": each answer is given exactly when
 pub record AnswerRule (s : Sweep) (m : ℤ) (o : List ℕ) : Type 0 where
-  pub camps : (c n : ℕ) → choosing s m o ≡ gives (camp c n) → Named s m o c n × (outcomeAt o c ≡ 1)
-  pub reads : (c n : ℕ) → choosing s m o ≡ gives (read c n) → Named s m o c n × (outcomeAt o c ≡ 0)
-  -- no beam: the number tried is the length of the near part, 0 if nothing was heard
-  pub tried : (n : ℕ) → choosing s m o ≡ gives (noBeam n) → n ≡ length (nearPart (heard s) s m)
-  pub silent : (a : Chosen) → choosing s m o ≡ gives a → ((c : ℕ) → Passes (heard s) c → ⊥) → a ≡ noBeam 0
+  -- "Outcome 1: "camp there"."
+  pub camps : (c n : ℕ) → (choosing s m o ≡ gives (camp c n)) ↔ (Accepts s m o × Named s m o c n × (getD o c 0 ≡ 1))
+  -- "Outcome 0: "read it next"."
+  pub reads : (c n : ℕ) → (choosing s m o ≡ gives (read c n)) ↔ (Accepts s m o × Named s m o c n × (getD o c 0 ≡ 0))
+  -- "None: "no beam".", with "the length of the near part"
+  pub none : (n : ℕ) → (choosing s m o ≡ gives (noBeam n))
+      ↔ (Accepts s m o × ((c : ℕ) → List·Memᴰ c (nearPart (heard s) s m) → Unsuitable o c) × (n ≡ length (nearPart (heard s) s m)))
+  -- "0 if nothing was heard"
+  pub silent : Accepts s m o → ((c : ℕ) → ¬ (Passes (heard s) c)) → choosing s m o ≡ gives (noBeam 0)
 
 abbrev pub TriedIsPlace : Type 0
 TriedIsPlace = (s : Sweep) (m : ℤ) (o : List ℕ) → AnswerRule s m o
@@ -116,12 +123,20 @@ abbrev pub NoBeamExactly : Type 0
 NoBeamExactly = (s : Sweep) (m : ℤ) (o : List ℕ) (a : Chosen) → choosing s m o ≡ gives a
     → ((n : ℕ) × (a ≡ noBeam n)) ↔ ((c : ℕ) → Passes (heard s) c → WithinMargin (heard s) s m c → Unsuitable o c)
 
--- bytes of channels not heard change no accepted answer
+-- "Bytes for channels not heard are checked for range only.": in range, they change nothing
 abbrev pub UnheardBytes : Type 0
-UnheardBytes = (s : Sweep) (m : ℤ) (o p : List ℕ) (a : Chosen)
-    → ((c : ℕ) → Passes (heard s) c → outcomeAt o c ≡ outcomeAt p c) → outcomesFine p ≡ true
-    → choosing s m o ≡ gives a → choosing s m p ≡ gives a
+UnheardBytes = (s : Sweep) (m : ℤ) (o p : List ℕ) → OutcomesInRange o → OutcomesInRange p
+    → ((c : ℕ) → Passes (heard s) c → getD o c 0 ≡ getD p c 0) → choosing s m o ≡ choosing s m p
+
+-- ---- answers
 
 -- what is told of an answer fixes its case and values
 abbrev pub AnswersDiffer : Type 0
 AnswersDiffer = OneToOne toldChoice
+
+-- and each case is told as what it says
+pub record AnswersTold : Type 0 where
+  pub camps : (c n : ℕ) → toldChoice (choice.Camp c n) ≡ gives (camp c n)
+  pub reads : (c n : ℕ) → toldChoice (choice.Read c n) ≡ gives (read c n)
+  pub none : (n : ℕ) → toldChoice (choice.NoBeam n) ≡ gives (noBeam n)
+  pub refuses : (r : Refusal) → toldChoice (choice.Refused r) ≡ refused (numberOf r)

@@ -1,6 +1,6 @@
 // The choice of a beam: what it answers. Document 01, section The choice. The rules and what is claimed of them stand in specs/; the call
 // stands in the crate `choice`.
-ghost use Rattle.choice_rules.specs.Claims.{RefusalRule, SearchOrderRule, NearPartRule, TriedIsPlace, NoBeamExactly, UnheardBytes, AnswersDiffer};
+ghost use Rattle.choice_rules.specs.Claims.{RefusalRule, SearchOrderRule, NearPartRule, TriedIsPlace, NoBeamExactly, UnheardBytes, AnswersDiffer, AnswersTold};
 use refusal::Refusal;
 use sweep_rules::Sweep;
 
@@ -26,5 +26,6 @@ pub fn claimed()
     ensures tried { λ _. ⌜ TriedIsPlace ⌝ }
     ensures nobeam { λ _. ⌜ NoBeamExactly ⌝ }
     ensures unheard { λ _. ⌜ UnheardBytes ⌝ }
-    ensures told { λ _. ⌜ AnswersDiffer ⌝ }
+    ensures differ { λ _. ⌜ AnswersDiffer ⌝ }
+    ensures told { λ _. ⌜ AnswersTold ⌝ }
 {}

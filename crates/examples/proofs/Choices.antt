@@ -14,7 +14,7 @@ use Rattle.sweep_rules.specs.declared.Sweep.{Sweep}
 use Rattle.sweep_rules.proofs.Tests.{both, each-all}
 use Rattle.choice_rules.specs.Order.{from, keep, beginning, insertBy, sortBy, searchOrder, nearOf, nearPart}
 use Rattle.choice_rules.specs.Choose.{camp, read, noBeam, outcomesFine, firstOpen, placeIn, answerOf, chosenAmong, chosen, choosing}
-use Rattle.choice_rules.proofs.Answers.{accepts}
+use Rattle.choice_rules.proofs.Refusals.{accepts}
 use Rattle.examples.specs.Given.{minus, nothingHeard, threeHeard, nothingRead, threeRead}
 
 -- ---- the levels, by laws: to compute them channel by channel would take seconds

@@ -9,26 +9,16 @@ use Rattle.sweep_rules.specs.declared.Numbers.the-variants as numbers
 use Rattle.sweep_rules.specs.Next.{Next, channel, done}
 use Rattle.sweep_rules.specs.Counts.{Counts}
 use Rattle.sweep_rules.specs.Told.{toldNext, toldNumbers}
-use Rattle.sweep_rules.specs.Claims.{OnesAreChannels, OneBitSet, WellFormedRule, NextLowest, FiledFromFresh, AnswersDiffer}
-use Rattle.sweep_rules.proofs.Maps as maps
-use Rattle.sweep_rules.proofs.Formed as formed
-use Rattle.sweep_rules.proofs.Lowest as lowest
-use Rattle.sweep_rules.proofs.Filings as filings
-
-pub onesAreChannels : OnesAreChannels
-onesAreChannels = maps.onesAreChannels
-
-pub oneBitSet : OneBitSet
-oneBitSet = maps.oneBitSet
-
-pub wellFormedRule : WellFormedRule
-wellFormedRule = formed.wellFormedRule
-
-pub nextLowest : NextLowest
-nextLowest = lowest.nextLowest
-
-pub filedFromFresh : FiledFromFresh
-filedFromFresh = filings.filedFromFresh
+use Rattle.sweep_rules.specs.Claims.{AnswersDiffer, AnswersTold}
+pub use Rattle.sweep_rules.proofs.ReadRecord.{recordRule, freshRule}
+pub use Rattle.sweep_rules.proofs.Maps.{onesAreChannels, oneBitSet}
+pub use Rattle.sweep_rules.proofs.Formed.{wellFormedRule}
+pub use Rattle.sweep_rules.proofs.Refusals.{refusalRule}
+pub use Rattle.sweep_rules.proofs.ReadCalls.{answerRule}
+pub use Rattle.sweep_rules.proofs.Lowest.{nextLowest, finishedRule}
+pub use Rattle.sweep_rules.proofs.OneFiling.{filingRule}
+pub use Rattle.sweep_rules.proofs.Sequences.{sequenceRule}
+pub use Rattle.sweep_rules.proofs.Filings.{filedFromFresh}
 
 -- ---- each way back from what is told
 
@@ -54,3 +44,8 @@ numbers-back (numbers.Refused r) = ap numbers.Refused (refusal-back r)
 
 pub answersDiffer : AnswersDiffer
 answersDiffer = record { next = by-way-back toldNext nextFrom next-back; numbers = by-way-back toldNumbers numbersFrom numbers-back }
+
+-- ---- each case is told as what it says
+
+pub answersTold : AnswersTold
+answersTold = record { nextChannel = λ c. refl; nextDone = refl; nextRefused = λ r. refl; numbersOf = λ v h. refl; numbersRefused = λ r. refl }

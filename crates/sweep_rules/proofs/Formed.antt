@@ -8,9 +8,10 @@ use mathlib.Core.List.{List}
 use native.Mathlib.Nat.{not-suc-le-zero, div-one}
 use native.Mathlib.Omega.{arith}
 use lib.ListN.{getD}
-use lib.IntN.{pos}
+use lib.IntN.{ℤ, pos, negℤ}
+use lib.Signed.{leZ, _≤ℤ_}
 use lib.Dec.{eqb, leb}
-use borrow.Author.Tests.{eqb-true, eq-eqb, leb-true, leb-false}
+use borrow.Author.Tests.{eqb-true, eq-eqb, leb-true, leb-false, le-leb}
 use Rattle.readings.specs.Ranges.{levelInRange}
 use Rattle.readings.specs.Channels.{channelHighest}
 use Rattle.sweep_rules.specs.Map.{channels, bitAt, isSet, allBelow}
@@ -21,15 +22,15 @@ use Rattle.sweep_rules.specs.declared.Sweep.{Sweep}
 use Rattle.sweep_rules.proofs.Tests.{implied, follows, which, same-or-not, both, left, right, fails, clash, same-test, each-all, all-each}
 use Rattle.sweep_rules.proofs.Words.{digit-one, digit-zero}
 use Rattle.sweep_rules.proofs.Maps.{set-in-word}
-use Rattle.sweep_rules.proofs.Levels.{is-zero, zero-is}
+use Rattle.sweep_rules.proofs.Levels.{le-fact, fact-le, is-zero, zero-is}
 
 -- ---- tests that follow from tests
 
-or-left : (a b : Bool) → a ≡ true → (a || b) ≡ true
+pub or-left : (a b : Bool) → a ≡ true → (a || b) ≡ true
 or-left true b e = refl
 or-left false b e = absurd (false≢true e)
 
-or-right : (a b : Bool) → b ≡ true → (a || b) ≡ true
+pub or-right : (a b : Bool) → b ≡ true → (a || b) ≡ true
 or-right true b e = refl
 or-right false b e = e
 
@@ -49,6 +50,20 @@ unnegated : (a : Bool) → not a ≡ true → a ≡ false
 unnegated true e = sym e
 unnegated false e = refl
 
+-- ---- 2 to 1,086, and -15,000 to 0
+
+pub swept-ends : (c : ℕ) → swept c ≡ true → (2 ≤ c) × (c ≤ 1086)
+swept-ends c e = (leb-true 2 c (left (leb 2 c) (leb c 1086) e), leb-true c 1086 (right (leb 2 c) (leb c 1086) e))
+
+pub ends-swept : (c : ℕ) → (2 ≤ c) × (c ≤ 1086) → swept c ≡ true
+ends-swept c h = both (le-leb 2 c (h .0)) (le-leb c 1086 (h .1))
+
+pub level-ends : (z : ℤ) → levelInRange z ≡ true → (negℤ (pos 15000) ≤ℤ z) × (z ≤ℤ pos 0)
+level-ends z e = (le-fact (left (leZ (negℤ (pos 15000)) z) (leZ z (pos 0)) e), le-fact (right (leZ (negℤ (pos 15000)) z) (leZ z (pos 0)) e))
+
+ends-level : (z : ℤ) → (negℤ (pos 15000) ≤ℤ z) × (z ≤ℤ pos 0) → levelInRange z ≡ true
+ends-level z h = both (fact-le (h .0)) (fact-le (h .1))
+
 -- ---- the four parts
 
 module _ (s : Sweep) where
@@ -61,14 +76,26 @@ module _ (s : Sweep) where
       let c3 = right (heardWhereVisited s && noBitOutside s) (zeroWhereNotHeard s) abc in
       let a = left (heardWhereVisited s) (noBitOutside s) ab in
       let b = right (heardWhereVisited s) (noBitOutside s) ab in
-      let outside : (c : ℕ) → c < channels → implies (visited s c || heard s c) (swept c) ≡ true = all-each channels (λ c. implies (visited s c || heard s c) (swept c)) b in
+      let outside : (c : ℕ) → c < channels → implies (visited s c || heard s c) (swept c) ≡ true
+      = all-each channels (λ c. implies (visited s c || heard s c) (swept c)) b in
+      let silent = all-each channels (λ c. implies (not (heard s c)) (isZero (levelAt s c))) c3 in
       record {
         heardVisited = λ c l h. follows (heard s c) (visited s c) (all-each channels (λ c. implies (heard s c) (visited s c)) a c l) h;
-        visitedSwept = λ c l v. follows (visited s c || heard s c) (swept c) (outside c l) (or-left (visited s c) (heard s c) v);
-        heardSwept = λ c l h. follows (visited s c || heard s c) (swept c) (outside c l) (or-right (visited s c) (heard s c) h);
-        levelZero = λ c l n. is-zero (levelAt s c) (follows (not (heard s c)) (isZero (levelAt s c)) (all-each channels (λ c. implies (not (heard s c)) (isZero (levelAt s c))) c3 c l) (negated (heard s c) n));
-        levelRange = all-each channels (λ c. levelInRange (levelAt s c)) d;
+        visitedInside = λ c l v. swept-ends c (follows (visited s c || heard s c) (swept c) (outside c l) (or-left (visited s c) (heard s c) v));
+        heardInside = λ c l h. swept-ends c (follows (visited s c || heard s c) (swept c) (outside c l) (or-right (visited s c) (heard s c) h));
+        levelZero = λ c l n. is-zero (levelAt s c) (follows (not (heard s c)) (isZero (levelAt s c)) (silent c l) (negated (heard s c) n));
+        levelInRange = λ c l. level-ends (levelAt s c) (all-each channels (λ c. levelInRange (levelAt s c)) d c l);
       }
+
+  -- its parts by the tests of the definition
+  pub visited-swept : WellFormed s → (c : ℕ) → c < channels → visited s c ≡ true → swept c ≡ true
+  visited-swept w c l v = ends-swept c (w .visitedInside c l v)
+
+  heard-swept : WellFormed s → (c : ℕ) → c < channels → heard s c ≡ true → swept c ≡ true
+  heard-swept w c l h = ends-swept c (w .heardInside c l h)
+
+  pub level-range : WellFormed s → (c : ℕ) → c < channels → levelInRange (levelAt s c) ≡ true
+  level-range w c l = ends-level (levelAt s c) (w .levelInRange c l)
 
   pub formed : WellFormed s → wellFormed s ≡ true
   unfolding wellFormed heardWhereVisited noBitOutside zeroWhereNotHeard levelsInRange
@@ -76,9 +103,11 @@ module _ (s : Sweep) where
       (both
       (both
       (each-all channels (λ c. implies (heard s c) (visited s c)) (λ c l. implied (heard s c) (visited s c) (w .heardVisited c l)))
-      (each-all channels (λ c. implies (visited s c || heard s c) (swept c)) (λ c l. implied (visited s c || heard s c) (swept c) (λ e. or-cases (visited s c) (heard s c) (swept c) e (w .visitedSwept c l) (w .heardSwept c l)))))
-      (each-all channels (λ c. implies (not (heard s c)) (isZero (levelAt s c))) (λ c l. implied (not (heard s c)) (isZero (levelAt s c)) (λ e. zero-is (levelAt s c) (w .levelZero c l (unnegated (heard s c) e))))))
-      (each-all channels (λ c. levelInRange (levelAt s c)) (w .levelRange))
+      (each-all channels (λ c. implies (visited s c || heard s c) (swept c)) (λ c l. implied (visited s c || heard s c) (swept c)
+      (λ e. or-cases (visited s c) (heard s c) (swept c) e (visited-swept w c l) (heard-swept w c l)))))
+      (each-all channels (λ c. implies (not (heard s c)) (isZero (levelAt s c))) (λ c l. implied (not (heard s c)) (isZero (levelAt s c))
+      (λ e. zero-is (levelAt s c) (w .levelZero c l (unnegated (heard s c) e))))))
+      (each-all channels (λ c. levelInRange (levelAt s c)) (level-range w))
 
   pub unformed : (WellFormed s → ⊥) → wellFormed s ≡ false
   unformed n = fails (wellFormed s) (λ e. n (all-four e))
@@ -152,18 +181,20 @@ module _ (s : Sweep) where
       (all-each 64 (λ k. implies (bitAt (getD (s .heard) (c / 64) 0) k) (bitAt (getD (s .visited) (c / 64) 0) k)) (left (within (c / 64)) (fine (c / 64)) (word (c / 64) (in-word c l))) (c % 64) (low c))
       h
       in
-      let vs : (c : ℕ) → c < channels → visited s c ≡ true → swept c ≡ true = λ c l v. follows (visited s c) (swept c) (all-each channels (λ c. implies (isSet (s .visited) c) (swept c)) ends c l) v in
+      let vs : (c : ℕ) → c < channels → visited s c ≡ true → (2 ≤ c) × (c ≤ 1086) = λ c l v.
+      swept-ends c (follows (visited s c) (swept c) (all-each channels (λ c. implies (isSet (s .visited) c) (swept c)) ends c l) v)
+      in
       record {
         heardVisited = hv;
-        visitedSwept = vs;
-        heardSwept = λ c l h. vs c l (hv c l h);
+        visitedInside = vs;
+        heardInside = λ c l h. vs c l (hv c l h);
         levelZero = λ c l n. is-zero (levelAt s c) (or-first (isZero (levelAt s c)) (heard s c) (right (levelInRange (levelAt s c)) (isZero (levelAt s c) || heard s c) (level-fine c l)) n);
-        levelRange = λ c l. left (levelInRange (levelAt s c)) (isZero (levelAt s c) || heard s c) (level-fine c l);
+        levelInRange = λ c l. level-ends (levelAt s c) (left (levelInRange (levelAt s c)) (isZero (levelAt s c) || heard s c) (level-fine c l));
       }
 
   pub formed-ends : WellFormed s → endsClear (s .visited) ≡ true
   unfolding endsClear
-  formed-ends w = each-all channels (λ c. implies (isSet (s .visited) c) (swept c)) (λ c l. implied (visited s c) (swept c) (w .visitedSwept c l))
+  formed-ends w = each-all channels (λ c. implies (isSet (s .visited) c) (swept c)) (λ c l. implied (visited s c) (swept c) (visited-swept s w c l))
 
   pub formed-word : WellFormed s → (j : ℕ) → j < 17 → wordOf s j ≡ true
   unfolding wordFine levelsFine
@@ -174,7 +205,7 @@ module _ (s : Sweep) where
       let heard-bit : (k : ℕ) → k < 64 → heard s (j * 64 + k) ≡ bitAt h k = set-in-word (s .heard) j in
       both
       (each-all 64 (λ k. implies (bitAt h k) (bitAt v k)) (λ k m. implied (bitAt h k) (bitAt v k) (λ b. sym (set-in-word (s .visited) j k m) ∙ w .heardVisited (j * 64 + k) (at k m) (heard-bit k m ∙ b))))
-      (each-all 64 (λ k. levelFine (levelAt s (j * 64 + k)) (bitAt h k)) (λ k m. both (w .levelRange (j * 64 + k) (at k m)) (⊎-elim
+      (each-all 64 (λ k. levelFine (levelAt s (j * 64 + k)) (bitAt h k)) (λ k m. both (level-range s w (j * 64 + k) (at k m)) (⊎-elim
       (λ (t : bitAt h k ≡ true). or-right (isZero (levelAt s (j * 64 + k))) (bitAt h k) t)
       (λ (t : bitAt h k ≡ false). or-left (isZero (levelAt s (j * 64 + k))) (bitAt h k) (zero-is (levelAt s (j * 64 + k)) (w .levelZero (j * 64 + k) (at k m) (heard-bit k m ∙ t))))
       (which (bitAt h k)))))

@@ -1,21 +1,20 @@
--- The lowest number that does not pass a test: what is left of the search from c on, in each case of the test at c; that it is the lowest;
--- and a finished sweep by it and by the number visited.
+-- The lowest number that does not pass a test: what is left of the search from c on, in each case of the test at c; that it is the lowest, and
+-- the next channel by it; a finished sweep, channel by channel and by the number visited.
 use Prim.Native.Nat.{ℕ, zero, suc, _+_, _-_, _≤_, _<_}
 use mathlib.Core.Path.{_≡_, refl, sym, ap, _∙_}
 use mathlib.Core.Bool.{Bool, true, false, cond}
-use mathlib.Core.Logic.{⊎-elim}
+use mathlib.Core.Logic.{_↔_, ⊎-elim}
 use native.Mathlib.Nat.{not-suc-le-zero, eq-or-lt-of-le, le-of-eq, add-zero, eq-zero-or-pos}
 use native.Mathlib.Numerals.{add-one}
 use native.Mathlib.Omega.{arith}
-use lib.Dec.{leb}
-use borrow.Author.Tests.{leb-true, le-leb}
 use Rattle.sweep_rules.specs.Map.{channels, howMany, setBits}
-use Rattle.sweep_rules.specs.Record.{firstSwept, lastSwept, sweptChannels, swept, visited, implies, finished, wellFormed}
-use Rattle.sweep_rules.specs.Next.{channel, done, lowestNot, nextOf}
-use Rattle.sweep_rules.specs.Claims.{NextLowest}
+use Rattle.sweep_rules.specs.Record.{firstSwept, sweptChannels, swept, visited, implies, finished}
+use Rattle.sweep_rules.specs.Next.{channel, done, lowestNot, nextOf, nextTold}
+use Rattle.sweep_rules.specs.Claims.{WellFormed, Finished, LowestUnvisited, NextLowest, FinishedRule}
 use Rattle.sweep_rules.specs.declared.Sweep.{Sweep}
-use Rattle.sweep_rules.proofs.Tests.{implied, follows, which, both, left, right, same-test, each-all, all-each, many-same, many-all}
-use Rattle.sweep_rules.proofs.Formed.{swept-channel, wellFormedRule}
+use Rattle.sweep_rules.proofs.Tests.{implied, follows, which, same-test, each-all, all-each, many-same, many-all}
+use Rattle.sweep_rules.proofs.Formed.{swept-ends, ends-swept, visited-swept}
+use Rattle.sweep_rules.proofs.ReadCalls.{answered, next-is}
 
 -- the first channel after those that the sweep visits
 abbrev pub sweptEnd : ℕ
@@ -76,6 +75,15 @@ module _ (p : ℕ → Bool) where
       ))
       (which (p c))
 
+  -- and where there is a lowest, it is found
+  pub finds-lowest : (n c d : ℕ) → c ≤ d → d < c + n → p d ≡ false → ((e : ℕ) → c ≤ e → e < d → p e ≡ true) → lowestNot p n c ≡ channel d
+  unfolding lowestNot
+  finds-lowest zero c d l m f h = absurd (not-suc-le-zero {n = 0} (omega arith))
+  finds-lowest (suc n) c d l m f h = ⊎-elim
+      (λ (q : c ≡ d). let t = ap p q ∙ f in rw t (ap channel q))
+      (λ (k : c < d). let t = h c (omega arith) k in rw t (finds-lowest n (suc c) d k (omega arith) f (λ e a b. h e (omega arith) b)))
+      (eq-or-lt-of-le l)
+
   pub none-left : (n c : ℕ) → lowestNot p n c ≡ done → (e : ℕ) → c ≤ e → e < c + n → p e ≡ true
   unfolding lowestNot
   none-left zero c d e l m = absurd (not-suc-le-zero {n = 0} (omega arith))
@@ -98,46 +106,68 @@ module _ (p : ℕ → Bool) where
 
 -- ---- a finished sweep
 
--- the numbers from 2 on, 1,085 of them, are the swept channels
-from-swept : (c : ℕ) → swept c ≡ true → (firstSwept ≤ c) × (c < sweptEnd)
-from-swept c e =
-    let h = leb-true c lastSwept (right (leb firstSwept c) (leb c lastSwept) e) in
-    (leb-true firstSwept c (left (leb firstSwept c) (leb c lastSwept) e), omega arith)
-
-to-swept : (c : ℕ) → firstSwept ≤ c → c < sweptEnd → swept c ≡ true
-to-swept c l m = both (le-leb firstSwept c l) (le-leb c lastSwept (omega arith))
-
 module _ (s : Sweep) where
-  swept-visited : finished s ≡ true → (c : ℕ) → swept c ≡ true → visited s c ≡ true
+  finished-all : finished s ≡ true → Finished s
   unfolding finished
-  swept-visited f c e = follows (swept c) (visited s c) (all-each channels (λ c. implies (swept c) (visited s c)) f c (swept-channel c e)) e
+  finished-all f c a b =
+      follows (swept c) (visited s c) (all-each channels (λ c. implies (swept c) (visited s c)) f c (omega arith)) (ends-swept c (a, b))
 
-  visited-swept : ((c : ℕ) → c < channels → swept c ≡ true → visited s c ≡ true) → finished s ≡ true
+  swept-all : Finished s → (c : ℕ) → c < channels → swept c ≡ true → visited s c ≡ true
+  swept-all h c l e = let i = swept-ends c e in h c (i .0) (i .1)
+
+  all-finished : ((c : ℕ) → c < channels → swept c ≡ true → visited s c ≡ true) → finished s ≡ true
   unfolding finished
-  visited-swept h = each-all channels (λ c. implies (swept c) (visited s c)) (λ c l. implied (swept c) (visited s c) (h c l))
+  all-finished h = each-all channels (λ c. implies (swept c) (visited s c)) (λ c l. implied (swept c) (visited s c) (h c l))
 
   -- the channels that the sweep visits are 1,085
-  number-swept : howMany channels swept ≡ sweptChannels
+  number-swept : howMany channels swept ≡ 1085
   unfolding howMany
   number-swept = refl
 
-  all-visited : wellFormed s ≡ true → finished s ≡ true → setBits (s .visited) ≡ sweptChannels
+  all-visited : WellFormed s → finished s ≡ true → setBits (s .visited) ≡ 1085
   unfolding setBits
-  all-visited w f = many-same (visited s) swept channels (λ c l. same-test (visited s c) (swept c) (wellFormedRule s .0 w .visitedSwept c l) (swept-visited f c)) ∙ number-swept
+  all-visited w f = many-same (visited s) swept channels (λ c l. same-test (visited s c) (swept c) (visited-swept s w c l) (swept-all (finished-all f) c l)) ∙ number-swept
 
-  visited-all : wellFormed s ≡ true → setBits (s .visited) ≡ sweptChannels → finished s ≡ true
+  visited-all : WellFormed s → setBits (s .visited) ≡ 1085 → finished s ≡ true
   unfolding setBits
-  visited-all w e = visited-swept (many-all (visited s) swept channels (wellFormedRule s .0 w .visitedSwept) (le-of-eq (number-swept ∙ sym e)))
+  visited-all w e = all-finished (many-all (visited s) swept channels (visited-swept s w) (le-of-eq (number-swept ∙ sym e)))
+
+pub finishedRule : FinishedRule
+finishedRule = record {
+  all = λ s. (finished-all s, λ h. all-finished s (swept-all s h));
+  counted = λ s w. (all-visited s w, visited-all s w);
+}
+
+-- ---- the next channel
+
+module _ (s : Sweep) where
+  none-next : nextOf s ≡ done → Finished s
+  unfolding nextOf
+  none-next d c a b = none-left (visited s) sweptChannels firstSwept d c a (omega arith)
+
+  all-next : Finished s → nextOf s ≡ done
+  unfolding nextOf
+  all-next h = all-done (visited s) sweptChannels firstSwept (λ c a b. h c a (omega arith))
+
+  pub finished-done : (finished s ≡ true) ↔ (nextOf s ≡ done)
+  finished-done = (λ f. all-next (finishedRule .all s .0 f), λ d. finishedRule .all s .1 (none-next d))
+
+  is-lowest : (c : ℕ) → nextOf s ≡ channel c → LowestUnvisited s c
+  unfolding nextOf
+  is-lowest c e =
+      let r = found-lowest (visited s) sweptChannels firstSwept c e in
+      record { inside = (r .0, omega (arith, r .1)); unvisited = r .2; lower = r .3 }
+
+  lowest-is : (c : ℕ) → LowestUnvisited s c → nextOf s ≡ channel c
+  unfolding nextOf
+  lowest-is c l = finds-lowest (visited s) sweptChannels firstSwept c (l .inside .0) (omega (arith, l .inside .1)) (l .unvisited) (l .lower)
 
 pub nextLowest : NextLowest
-unfolding nextOf
 nextLowest s = record {
-  inSweep = λ c e. let r = found-lowest (visited s) sweptChannels firstSwept c e in to-swept c (r .0) (r .1);
-  notVisited = λ c e. found-lowest (visited s) sweptChannels firstSwept c e .2;
-  lowest = λ c e d t l. found-lowest (visited s) sweptChannels firstSwept c e .3 d (from-swept d t .0) l;
-  finishedDone = (
-    λ f. all-done (visited s) sweptChannels firstSwept (λ e l m. swept-visited s f e (to-swept e l m)),
-    λ d. visited-swept s (λ c l e. let r = from-swept c e in none-left (visited s) sweptChannels firstSwept d c (r .0) (r .1)),
-  );
-  finishedCounted = λ w. (all-visited s w, visited-all s w);
+  lowest = λ c.
+      let told = answered s (nextOf s) (nextTold s) (next-is s) (channel c) in
+      (λ e. (told .0 e .0, is-lowest s c (told .0 e .1)), λ h. told .1 (h .0, lowest-is s c (h .1)));
+  none =
+      let told = answered s (nextOf s) (nextTold s) (next-is s) done in
+      (λ e. (told .0 e .0, none-next s (told .0 e .1)), λ h. told .1 (h .0, all-next s (h .1)));
 }

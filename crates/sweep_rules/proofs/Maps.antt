@@ -153,11 +153,6 @@ module _ (m : List ℕ) (c : ℕ) (low : c / 64 < length m) (clear : isSet m c �
   unfolding isSet
   bit-kept d n = ⊎-elim (λ (e : d / 64 ≡ c / 64). same-word d n e) (λ (o : d / 64 ≡ c / 64 → ⊥). ap (λ (w : ℕ). bitAt w (d % 64)) (other-word (d / 64) o)) (same-or-not (d / 64) (c / 64))
 
-  -- one channel more
-  pub one-more : c < channels → setBits (withBit m c) ≡ suc (setBits m)
-  unfolding setBits
-  one-more l = many-more (isSet m) (isSet (withBit m c)) c clear bit-set (λ d n. sym (bit-kept d n)) channels l
-
 with-set : (m : List ℕ) (c : ℕ) → isSet m c ≡ true → withBit m c ≡ m
 unfolding withBit
 with-set m c t = rw t

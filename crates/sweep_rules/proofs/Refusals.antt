@@ -2,46 +2,45 @@
 use Prim.Native.Nat.{ℕ, _≤_, _<_}
 use mathlib.Core.Path.{_≡_, refl, sym, ap, _∙_, subst}
 use mathlib.Core.Bool.{Bool, true, false, _&&_}
-use mathlib.Core.Logic.{_↔_, ⊎-elim}
+use mathlib.Core.Logic.{⊎-elim}
 use native.Mathlib.Omega.{arith}
+use lib.IntN.{ℤ}
 use lib.Dec.{leb}
-use borrow.Author.Tests.{leb-true, leb-false, le-leb}
-use Rattle.refusal.specs.declared.Refusal.the-variants.{RecordNotWellFormed}
-use Rattle.refusal.specs.Told.{Told, refused, gives, accepted}
+use borrow.Author.Tests.{leb-false}
+use Rattle.refusal.specs.Told.{Told, refused, gives}
 use Rattle.refusal.proofs.OneToOne.{gives-refused}
 use Rattle.readings.specs.declared.Burst.{Burst}
+use Rattle.readings.specs.declared.Burst.the-variants.{Heard, Missed}
+use Rattle.readings.specs.declared.Reading.{Reading}
+use Rattle.readings.specs.Hundredths.{levelOf, qualityOf}
 use Rattle.readings.specs.Burst as readings
-use Rattle.readings.specs.Burst.{BurstResult, burstOf}
+use Rattle.readings.specs.Burst.{BurstResult, bothOf, burstOf}
 use Rattle.readings.proofs.Bursts.{burst-1}
-use Rattle.sweep_rules.specs.Map.{setBits}
 use Rattle.sweep_rules.specs.Record.{swept, visited, wellFormed}
-use Rattle.sweep_rules.specs.Filing.{provided, withBurst, filing, checking}
-use Rattle.sweep_rules.specs.Next.{Next, nextOf, nextTold}
-use Rattle.sweep_rules.specs.Counts.{Counts, countsOf, countsTold}
-use Rattle.sweep_rules.specs.Claims.{WellFormed, Refuses, unformed, channelBelow, channelAbove, visitedBefore, burstOutOfRange, RefusalRule, AnswerRule}
+use Rattle.sweep_rules.specs.Filing.{withBurst, filing, answers, checking}
+use Rattle.sweep_rules.specs.Next.{nextOf, nextTold}
+use Rattle.sweep_rules.specs.Counts.{countsOf, countsTold}
+use Rattle.sweep_rules.specs.Claims.{WellFormed, Refuses, unformed, channelBelow, channelAbove, visitedBefore, levelOutside, qualityOutside, RefusalRule}
 use Rattle.sweep_rules.specs.declared.Sweep.{Sweep}
-use Rattle.sweep_rules.proofs.Tests.{which, both, left, right, clash}
-use Rattle.sweep_rules.proofs.Formed.{wellFormedRule}
-use Rattle.sweep_rules.proofs.Filed.{granted, denied, file-9, file-2, file-3, file-in, burst-refused}
+use Rattle.sweep_rules.proofs.Tests.{which}
+use Rattle.sweep_rules.proofs.Formed.{swept-ends, ends-swept, wellFormedRule}
+use Rattle.sweep_rules.proofs.Filed.{file-9, file-2, file-3, file-in, burst-refused}
+use Rattle.sweep_rules.proofs.ReadCalls.{number, fails, says-no, only-9, next-is, counts-is, test-is}
 
-pub number : {A : Type 0} {a b : ℕ} {t : Told A} → t ≡ refused a → t ≡ refused b → a ≡ b
-number {A} {a} {b} p q = let e : _≡_ {A = Told A} (refused a) (refused b) = sym p ∙ q in cc
+-- ---- a burst by its two floats
 
--- a test that fails where its words do not hold, and the other way round
-module _ {P : Type 0} (t : Bool) where
-  pub fails : (t ≡ true → P) → ¬ P → t ≡ false
-  fails f n = ⊎-elim (λ (e : t ≡ true). absurd (n (f e))) (λ (e : t ≡ false). e) (which t)
+same-number : {A B : Type 0} {a b : ℕ} → _≡_ {A = Told A} (refused a) (refused b) → _≡_ {A = Told B} (refused a) (refused b)
+same-number e = ap refused (number refl e)
 
-  pub says-no : (P → t ≡ true) → t ≡ false → ¬ P
-  says-no f e h = clash (f h) e
-
--- ---- 2 to 1,086
-
-pub swept-ends : (c : ℕ) → swept c ≡ true → (2 ≤ c) × (c ≤ 1086)
-swept-ends c e = (leb-true 2 c (left (leb 2 c) (leb c 1086) e), leb-true c 1086 (right (leb 2 c) (leb c 1086) e))
-
-pub ends-swept : (c : ℕ) → 2 ≤ c → c ≤ 1086 → swept c ≡ true
-ends-swept c a b = both (le-leb 2 c a) (le-leb c 1086 b)
+-- a heard burst whose quality is refused is refused, with 1 as well where its level is
+quality-refused : (r : Reading) → qualityOf (r .quality) ≡ refused 1 → burstOf (Heard r) ≡ refused 1
+quality-refused r e = by (levelOf (r .level)) refl
+  where
+    by : (l : Told ℤ) → levelOf (r .level) ≡ l → burstOf (Heard r) ≡ refused 1
+    by (gives h) q = ap (λ (l : Told ℤ). bothOf l (qualityOf (r .quality))) q ∙ ap (bothOf (gives h)) e
+    by (refused m) q =
+        let refuses : burstOf (Heard r) ≡ refused m = ap (λ (l : Told ℤ). bothOf l (qualityOf (r .quality))) q in
+        refuses ∙ ap refused (burst-1 (Heard r) m refuses)
 
 -- ---- a filing
 
@@ -54,18 +53,29 @@ module _ (s : Sweep) (c : ℕ) (b : Burst) where
   unfolding withBurst
   by-burst (gives readings.missed) n e = absurd (gives-refused e)
   by-burst (gives (readings.heard level quality)) n e = absurd (gives-refused e)
-  by-burst (refused m) n e = let q : m ≡ n = cc in ap refused q
+  by-burst (refused m) n e = same-number e
 
-  to-row : (n : ℕ) → filing s c b ≡ refused n → Refuses s c b n
+  burst-row : WellFormed s → 2 ≤ c → c ≤ 1086 → visited s c ≡ false → (x : Burst) → b ≡ x → burstOf x ≡ refused 1 → Refuses s c b 1
+  burst-row w low high v (Heard r) is e = by (levelOf (r .level)) (qualityOf (r .quality)) refl refl e
+    where
+      by : (l q : Told ℤ) → levelOf (r .level) ≡ l → qualityOf (r .quality) ≡ q → bothOf l q ≡ refused 1 → Refuses s c b 1
+      by (gives l) (gives q) d k f = absurd (gives-refused f)
+      by (gives l) (refused n) d k f = qualityOutside r w low high v is (k ∙ same-number f)
+      by (refused n) q d k f = levelOutside r w low high v is (d ∙ same-number f)
+  burst-row w low high v Missed is e = absurd (gives-refused e)
+
+  pub to-row : (n : ℕ) → filing s c b ≡ refused n → Refuses s c b n
   to-row n e =
       ⊎-elim
       (λ (w : wellFormed s ≡ true). ⊎-elim
-      (λ (i : swept c ≡ true). ⊎-elim
-      (λ (v : visited s c ≡ true). row-is e (file-3 s c b w i v) (visitedBefore (wellFormedRule s .0 w) (swept-ends c i .0) (swept-ends c i .1) v))
+      (λ (i : swept c ≡ true).
+      let h = swept-ends c i in
+      ⊎-elim
+      (λ (v : visited s c ≡ true). row-is e (file-3 s c b w i v) (visitedBefore (wellFormedRule s .0 w) (h .0) (h .1) v))
       (λ (v : visited s c ≡ false).
       let r = by-burst (burstOf b) n (sym (file-in s c b w i v) ∙ e) in
       let one = burst-1 b n r in
-      subst (Refuses s c b) (sym one) (burstOutOfRange (wellFormedRule s .0 w) (swept-ends c i .0) (swept-ends c i .1) v (r ∙ ap refused one)))
+      subst (Refuses s c b) (sym one) (burst-row (wellFormedRule s .0 w) (h .0) (h .1) v b refl (r ∙ ap refused one)))
       (which (visited s c)))
       (λ (i : swept c ≡ false). row-is e (file-2 s c b w i) (outside w i))
       (which (swept c)))
@@ -82,62 +92,26 @@ module _ (s : Sweep) (c : ℕ) (b : Burst) where
   not-swept : ((2 ≤ c) × (c ≤ 1086) → ⊥) → swept c ≡ false
   not-swept n = fails (swept c) (swept-ends c) n
 
-  from-row : {n : ℕ} → Refuses s c b n → filing s c b ≡ refused n
+  -- the tests passed, a filing is what the burst makes of the record
+  in-burst : WellFormed s → 2 ≤ c → c ≤ 1086 → visited s c ≡ false → burstOf b ≡ refused 1 → filing s c b ≡ refused 1
+  in-burst w x y v r = file-in s c b (wellFormedRule s .1 w) (ends-swept c (x, y)) v ∙ burst-refused s c (burstOf b) 1 r
+
+  pub from-row : {n : ℕ} → Refuses s c b n → filing s c b ≡ refused n
   from-row (unformed w) = file-9 s c b (fails (wellFormed s) (wellFormedRule s .0) w)
   from-row (channelBelow w l) = file-2 s c b (wellFormedRule s .1 w) (not-swept (λ (h : (2 ≤ c) × (c ≤ 1086)). let g = h .0 in omega arith))
   from-row (channelAbove w l) = file-2 s c b (wellFormedRule s .1 w) (not-swept (λ (h : (2 ≤ c) × (c ≤ 1086)). let g = h .1 in omega arith))
-  from-row (visitedBefore w x y v) = file-3 s c b (wellFormedRule s .1 w) (ends-swept c x y) v
-  from-row (burstOutOfRange w x y v r) = file-in s c b (wellFormedRule s .1 w) (ends-swept c x y) v ∙ burst-refused s c (burstOf b) 1 r
+  from-row (visitedBefore w x y v) = file-3 s c b (wellFormedRule s .1 w) (ends-swept c (x, y)) v
+  from-row (levelOutside r w x y v is e) = in-burst w x y v (ap burstOf is ∙ ap (λ (l : Told ℤ). bothOf l (qualityOf (r .quality))) e)
+  from-row (qualityOutside r w x y v is e) = in-burst w x y v (ap burstOf is ∙ quality-refused r e)
 
--- ---- the calls that only read a record
-
-module _ {A : Type 0} (s : Sweep) (a : A) (t : Told A) (is : t ≡ provided (wellFormed s) RecordNotWellFormed (gives a)) where
-  only-9 : (n : ℕ) → (t ≡ refused n) ↔ ((n ≡ 9) × (¬ (WellFormed s)))
-  only-9 n = (
-    λ e. ⊎-elim
-        (λ (w : wellFormed s ≡ true). absurd (gives-refused (sym (is ∙ granted RecordNotWellFormed (gives a) w) ∙ e)))
-        (λ (w : wellFormed s ≡ false). (number e (is ∙ denied RecordNotWellFormed (gives a) w), says-no (wellFormed s) (wellFormedRule s .1) w))
-        (which (wellFormed s)),
-    λ h. is ∙ denied RecordNotWellFormed (gives a) (fails (wellFormed s) (wellFormedRule s .0) (h .1)) ∙ ap refused (sym (h .0)),
-  )
-
-  answered : WellFormed s → t ≡ gives a
-  answered w = is ∙ granted RecordNotWellFormed (gives a) (wellFormedRule s .1 w)
-
-  is-answer : (x : A) → t ≡ gives x → a ≡ x
-  is-answer x e =
-      ⊎-elim
-      (λ (w : wellFormed s ≡ true). given (sym (is ∙ granted RecordNotWellFormed (gives a) w) ∙ e))
-      (λ (w : wellFormed s ≡ false). absurd (gives-refused (sym e ∙ is ∙ denied RecordNotWellFormed (gives a) w)))
-      (which (wellFormed s))
-    where
-      given : gives a ≡ gives x → a ≡ x
-      given q = cc
-
-next-is : (s : Sweep) → nextTold s ≡ provided (wellFormed s) RecordNotWellFormed (gives (nextOf s))
-unfolding nextTold
-next-is s = refl
-
-counts-is : (s : Sweep) → countsTold s ≡ provided (wellFormed s) RecordNotWellFormed (gives (countsOf s))
-unfolding countsTold
-counts-is s = refl
-
-test-is : (s : Sweep) → checking s ≡ provided (wellFormed s) RecordNotWellFormed accepted
-unfolding checking
-test-is s = refl
+answer-refused : (t : Told Sweep) (n : ℕ) → answers t ≡ refused n → t ≡ refused n
+answer-refused (gives u) n e = absurd (gives-refused e)
+answer-refused (refused m) n e = same-number e
 
 pub refusalRule : RefusalRule
 refusalRule = record {
-  files = λ s c b n. (to-row s c b n, from-row s c b);
+  files = λ s c b n. (λ e. to-row s c b n (answer-refused (filing s c b) n e), λ row. ap answers (from-row s c b row));
   next = λ s. only-9 s (nextOf s) (nextTold s) (next-is s);
   numbers = λ s. only-9 s (countsOf s) (countsTold s) (counts-is s);
   tests = λ s. only-9 s tt (checking s) (test-is s);
-}
-
-pub answerRule : AnswerRule
-unfolding countsOf
-answerRule s = record {
-  next = answered s (nextOf s) (nextTold s) (next-is s);
-  numberVisited = λ n e. sym (ap (λ (x : Counts). x .visited) (is-answer s (countsOf s) (countsTold s) (counts-is s) n e));
-  numberHeard = λ n e. sym (ap (λ (x : Counts). x .heard) (is-answer s (countsOf s) (countsTold s) (counts-is s) n e));
 }

@@ -44,5 +44,4 @@ howMany (suc n) p = cond (p n) (suc (howMany n p)) (howMany n p)
 
 -- the number of set bits in a map: the number of channels whose bit is set
 unfoldable pub setBits : List ℕ → ℕ
-unfolding howMany isSet
 setBits m = howMany channels (isSet m)

@@ -1,6 +1,7 @@
 // The band sweep: its record, its channels and what its calls answer. Document 01, section The band sweep.
 // The rules and what is claimed of them stand in specs/; the calls stand in the crate `sweep`.
-ghost use Rattle.sweep_rules.specs.Claims.{OnesAreChannels, OneBitSet, WellFormedRule, RefusalRule, AnswerRule, NextLowest, FiledFromFresh, AnswersDiffer};
+ghost use Rattle.sweep_rules.specs.Claims.{RecordRule, FreshRule, OnesAreChannels, OneBitSet, WellFormedRule, RefusalRule, FilingRule};
+ghost use Rattle.sweep_rules.specs.Claims.{NextLowest, AnswerRule, FinishedRule, SequenceRule, FiledFromFresh, AnswersDiffer, AnswersTold};
 use refusal::Outcome;
 use refusal::Refusal;
 
@@ -51,12 +52,18 @@ pub const LAST_SWEPT: usize = 1086;
 
 // Nothing to run: its contract is all that is claimed of the sweep beyond the calls, so that the check asks for the proof of each.
 pub fn claimed()
+    ensures record { λ _. ⌜ RecordRule ⌝ }
+    ensures fresh { λ _. ⌜ FreshRule ⌝ }
     ensures ones { λ _. ⌜ OnesAreChannels ⌝ }
     ensures bits { λ _. ⌜ OneBitSet ⌝ }
     ensures formed { λ _. ⌜ WellFormedRule ⌝ }
     ensures refusals { λ _. ⌜ RefusalRule ⌝ }
-    ensures answers { λ _. ⌜ AnswerRule ⌝ }
+    ensures files { λ _. ⌜ FilingRule ⌝ }
     ensures next { λ _. ⌜ NextLowest ⌝ }
+    ensures answers { λ _. ⌜ AnswerRule ⌝ }
+    ensures finished { λ _. ⌜ FinishedRule ⌝ }
+    ensures sequence { λ _. ⌜ SequenceRule ⌝ }
     ensures filed { λ _. ⌜ FiledFromFresh ⌝ }
-    ensures told { λ _. ⌜ AnswersDiffer ⌝ }
+    ensures differ { λ _. ⌜ AnswersDiffer ⌝ }
+    ensures told { λ _. ⌜ AnswersTold ⌝ }
 {}

@@ -19,7 +19,7 @@ use Rattle.sweep_rules.proofs.Tests.{left, right}
 use Rattle.choice_rules.specs.Choose.{marginLowest, marginHighest, marginInRange, outcomesFine, chosen}
 use Rattle.choice_rules.specs.Code.{Keyed, walked}
 use Rattle.choice_rules.proofs.Whole.{not-negative, size-le}
-use Rattle.choice_rules.proofs.Answers.{fine-length}
+use Rattle.choice_rules.proofs.Refusals.{fine-length}
 use Rattle.choice_rules.proofs.KeyOrder.{walk-chooses, keys-keyed}
 use Rattle.choice_rules.proofs.Endings.{says-8, says-7, says-4, says-chosen, next-refused, next-formed, next-unfinished, next-finished}
 use borrow.Author.Needs.{needs}

@@ -11,7 +11,7 @@ use mir.ValLaws.{toZ-ofZ}
 use Rattle.readings.specs.Ranges.{levelInRange}
 use Rattle.sweep_rules.specs.Map.{channels, isSet}
 use Rattle.sweep_rules.specs.Record.{levelAt}
-use Rattle.sweep_rules.proofs.Formed.{wellFormedRule}
+use Rattle.sweep_rules.proofs.Formed.{level-range, wellFormedRule}
 use Rattle.choice_rules.specs.Code.{keyOf}
 use Rattle.choice_rules.proofs.Gathered.{Gathered, gathered-start, gathered-same, gathered-new, gathered-end}
 use Rattle.choice.proofs.heard_keys.Statement.{statement}
@@ -42,8 +42,10 @@ key-requires c κs =
     let l = c .before .before .before .before .before in
     let s = l .before .before .before .args .s in
     let z = levelAt s (l .loop .c) in
-    let h : l .loop .c < channels = omega arith in
-    (ap levelInRange (toZ-ofZ w32 z (record { sfits = c .level .given })) ∙ wellFormedRule s .0 (l .before .before .before .pre) .levelRange (l .loop .c) h, h)
+    let h : l .loop .c < channels = omega arith in (
+      ap levelInRange (toZ-ofZ w32 z (record { sfits = c .level .given })) ∙ level-range s (wellFormedRule s .0 (l .before .before .before .pre)) (l .loop .c) h,
+      h,
+    )
 
 mul-list : tie.Need-mul-list Inv-loop μ-loop
 mul-list c = let l = c .before .before .before .before .before .before in let g = l .loop .inv .1 .few in omega arith
