@@ -8,11 +8,12 @@ use mathlib.Core.List.{List, [], _∷_, List·Memᴰ, List·Memᴰ·head, List·
 use native.Mathlib.Nat.{add-zero, zero-add}
 use native.Mathlib.Omega.{arith}
 use lib.ListN.{length, getD, replicate, length-replicate}
-use lib.IntN.{ℤ, pos, negℤ}
-use lib.Signed.{_≤ℤ_, leZ-yes}
+use lib.IntN.{ℤ, pos}
 use Rattle.refusal.specs.Told.{Told, refused, gives}
 use Rattle.refusal.proofs.OneToOne.{gives-refused}
 use Rattle.readings.specs.declared.Burst.{Burst}
+use Rattle.readings.specs.Claims.{LevelInRange}
+use Rattle.readings.proofs.Ranges.{rangeRule}
 use Rattle.readings.specs.declared.Burst.the-variants.{Heard, Missed}
 use Rattle.readings.specs.declared.Reading.{Reading}
 use Rattle.readings.specs.Ranges.{levelLow, levelHigh}
@@ -23,10 +24,10 @@ use Rattle.sweep_rules.specs.Record.{visited, heard, levelAt, freshSweep
 use Rattle.sweep_rules.specs.Filing.{leaves}
 use Rattle.sweep_rules.specs.Claims.{Typed, WellFormed, Accepts, Filed, Filing, told, after, isAccepted, acceptedOf, isHeard, heardOf, For, FiledFromFresh}
 use Rattle.sweep_rules.specs.declared.Sweep.{Sweep}
-use Rattle.sweep_rules.proofs.Tests.{which, same-or-not, fails, clash, same-test, many-none, many-more, many-same}
+use Rattle.sweep_rules.proofs.Tests.{same-or-not, fails, clash, same-test, many-none, many-more, many-same}
 use Rattle.sweep_rules.proofs.ReadRecord.{freshRule}
 use Rattle.sweep_rules.proofs.Levels.{no-bit}
-use Rattle.sweep_rules.proofs.Formed.{formed, level-ends, not-heard, wellFormedRule}
+use Rattle.sweep_rules.proofs.Formed.{formed, not-heard, wellFormedRule}
 use Rattle.sweep_rules.proofs.Refusals.{from-row}
 use Rattle.sweep_rules.proofs.OneFiling.{Passed, passed, filingRule}
 
@@ -85,7 +86,7 @@ module _ (s : Sweep) (f : Filing) (t : Sweep) (P : Passed s (f .channel)) (F : F
           visitedInside = seen-inside;
           heardInside = λ c l h. seen-inside c l (hv c l h);
           levelZero = λ c l n. F .levelsKept is c ∙ p .levelZero c l (sym (F .misses is c) ∙ n);
-          levelInRange = λ c l. subst (λ (z : ℤ). (negℤ (pos 15000) ≤ℤ z) × (z ≤ℤ pos 0)) (sym (F .levelsKept is c)) (p .levelInRange c l);
+          levelInRange = λ c l. subst LevelInRange (sym (F .levelsKept is c)) (p .levelInRange c l);
         };
         visitedMore = more-set (s .visited) (t .visited) (f .channel) low (P .clear) (F .visits);
         heardMore = same-set (s .heard) (t .heard) (F .misses is) ∙ ap (λ (x : Burst). cond (isHeard x) (suc (setBits (s .heard))) (setBits (s .heard))) (sym is);
@@ -107,8 +108,7 @@ module _ (s : Sweep) (f : Filing) (t : Sweep) (P : Passed s (f .channel)) (F : F
       let hears = F .hears r is in
       let kept = F .levelKept r is in
       let is-heard : isHeard (f .burst) ≡ true = ap isHeard is in
-      let ends : ℤ → Type 0 = λ z. (negℤ (pos 15000) ≤ℤ z) × (z ≤ℤ pos 0) in
-      let here = level-ends (levelAt t (f .channel)) (converted-in levelLow levelHigh (r .level) (levelAt t (f .channel)) (F .levelStored r is)) in
+      let here = rangeRule .level (levelAt t (f .channel)) .0 (converted-in levelLow levelHigh (r .level) (levelAt t (f .channel)) (F .levelStored r is)) in
       let hv : (c : ℕ) → c < 1088 → heard t c ≡ true → visited t c ≡ true = λ c l h. F .visits c .1 (⊎-elim
       (λ (o : heard s c ≡ true). inl (p .heardVisited c l o))
       (λ (q : c ≡ f .channel). inr q)
@@ -122,8 +122,8 @@ module _ (s : Sweep) (f : Filing) (t : Sweep) (P : Passed s (f .channel)) (F : F
           levelZero = λ c l n.
               kept c (λ (q : c ≡ f .channel). clash (hears c .1 (inr q)) n) ∙ p .levelZero c l (fails (heard s c) (λ h. clash (hears c .1 (inl h)) n));
           levelInRange = λ c l. ⊎-elim
-              (λ (q : c ≡ f .channel). subst (λ (n : ℕ). ends (levelAt t n)) (sym q) here)
-              (λ (n : c ≡ f .channel → ⊥). subst ends (sym (kept c n)) (p .levelInRange c l))
+              (λ (q : c ≡ f .channel). subst (λ (n : ℕ). LevelInRange (levelAt t n)) (sym q) here)
+              (λ (n : c ≡ f .channel → ⊥). subst LevelInRange (sym (kept c n)) (p .levelInRange c l))
               (same-or-not c (f .channel));
         };
         visitedMore = more-set (s .visited) (t .visited) (f .channel) low (P .clear) (F .visits);
@@ -282,7 +282,7 @@ fresh-parts = record {
   visitedInside = λ c l v. absurd (clash v (none-visited c));
   heardInside = λ c l h. absurd (clash h (none-heard c));
   levelZero = λ c l n. fresh-level c;
-  levelInRange = λ c l. subst (λ (z : ℤ). (negℤ (pos 15000) ≤ℤ z) × (z ≤ℤ pos 0)) (sym (fresh-level c)) (leZ-yes tt, leZ-yes tt);
+  levelInRange = λ c l. subst LevelInRange (sym (fresh-level c)) (rangeRule .level (pos 0) .0 refl);
 }
 
 pub fresh-formed : wellFormed freshSweep ≡ true
