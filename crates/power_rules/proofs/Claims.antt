@@ -1,7 +1,6 @@
 -- The claims of `specs/Claims.antt`. A call's result is followed through its tests; the two codes go through the laws to natural numbers; an
 -- answer is told one-to-one, as there is a way back.
 use mathlib.Core.Path.{_≡_, refl, sym, ap}
-use mathlib.Core.Bool.{true}
 use Prim.Native.Nat.{ℕ, zero, suc, _*_, _/_, _≤_}
 use native.Mathlib.Nat.{div-mul-le-self, lt-div-mul-add, div-lt-iff-lt-mul, le-div-iff-mul-le, suc-mul}
 use native.Mathlib.Omega.{arith}
@@ -17,16 +16,17 @@ use Rattle.power_rules.specs.Constants.{numericHighest}
 use Rattle.power_rules.specs.PowerSteps.{parametersInRange, wellFormed, freshWith, panUse, recordAfter, parToSend, panToSend}
 use Rattle.power_rules.specs.Calls.{HandedBack, ToSend, started, tested, sending}
 use Rattle.power_rules.specs.Told.{toldAnswer}
-use Rattle.power_rules.specs.Claims.{StartsWellFormed, StaysWellFormed, RefusedKeepsRecord, TestKeepsRecord, WithinLimits, SendsWithinLimits, RoundsDown, AnswersDiffer}
+use Rattle.power_rules.specs.Refusals.{WellFormed}
+use Rattle.power_rules.specs.Claims.{StartsWellFormed, StaysWellFormed, RefusedKeepsRecord, TestKeepsRecord, WithinLimits, SendsWithinLimits, RoundsDown, AnswersTold, AnswersDiffer}
 use Rattle.power_rules.specs.Code.{aboveLowest, parAt, panAt}
 use Rattle.power_rules.proofs.Whole.{both, by-test}
-use Rattle.power_rules.proofs.Ranges.{usable, formed, well-formed, formed-after, use-below}
+use Rattle.power_rules.proofs.Ranges.{usable, formed, formed-after, use-below}
 use Rattle.power_rules.proofs.Rules.{held-small, par-law, pan-law}
 use Rattle.power_rules.proofs.Steps.{step-cases}
 
 -- ---- records stay well formed
-fresh-formed : (n : ℕ) → n ≤ numericHighest → wellFormed (freshWith n) ≡ true
-fresh-formed n h = well-formed (freshWith n) (record { panlast = h; parsave = h; panbasic = h; increase = omega arith; multiple = refl })
+fresh-formed : (n : ℕ) → n ≤ numericHighest → WellFormed (freshWith n)
+fresh-formed n h = record { panlast = h; parsave = h; panbasic = h; increase = omega arith; multiple = refl }
 
 pub startsWellFormed : StartsWellFormed
 unfolding started
@@ -37,7 +37,7 @@ startsWellFormed p =
 
 pub staysWellFormed : StaysWellFormed
 unfolding sending
-staysWellFormed p r d sqi f = step-cases p r d sqi (λ (h : HandedBack ToSend). wellFormed (h .power) ≡ true) (λ why. f) (λ _ _ _. well-formed (recordAfter p r d) (formed-after p r d (formed r f)))
+staysWellFormed p r d sqi f = step-cases p r d sqi (λ (h : HandedBack ToSend). WellFormed (h .power)) (λ why. f) (λ _ _ _. formed-after p r d f)
 
 -- ---- refusals
 pub refusedKeepsRecord : RefusedKeepsRecord
@@ -98,6 +98,9 @@ answer-back : (a : Answer) → answerOf (toldAnswer a) ≡ a
 unfolding answerOf
 answer-back (Send par pan) = refl
 answer-back (Refused r) = ap Refused (refusal-back r)
+
+pub answersTold : AnswersTold
+answersTold = record { codes = λ par pan. refl; number = λ why. refl }
 
 pub answersDiffer : AnswersDiffer
 answersDiffer = by-way-back toldAnswer answerOf answer-back

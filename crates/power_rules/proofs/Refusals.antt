@@ -2,20 +2,20 @@
 use Prim.Native.Nat.{ℕ}
 use mathlib.Core.Path.{_≡_, refl, sym, ap, subst, _∙_}
 use mathlib.Core.Bool.{Bool, true, false, _&&_}
-use lib.Dec.{T, leb}
-use lib.IntN.{ℤ, pos, negℤ}
-use lib.Signed.{leZ, leZ-yes}
+use lib.Dec.{leb}
+use lib.IntN.{ℤ}
 use borrow.Author.Tests.{leb-true, le-leb}
 use Rattle.refusal.specs.Told.{Told, refused}
 use Rattle.refusal.proofs.OneToOne.{gives-refused}
 use Rattle.readings.specs.Ranges.{qualityInRange}
+use Rattle.readings.proofs.Ranges.{rangeRule}
 use Rattle.power_rules.specs.declared.PowerParameters.{PowerParameters}
 use Rattle.power_rules.specs.declared.PowerRecord.{PowerRecord}
 use Rattle.power_rules.specs.declared.Decoded.{Decoded}
 use Rattle.power_rules.specs.declared.Decoded.the-variants.{Failed, Codes}
 use Rattle.power_rules.specs.PowerSteps.{parametersInRange, codesInRange, wellFormed}
 use Rattle.power_rules.specs.Calls.{started, tested, sending, stepped}
-use Rattle.power_rules.specs.Refusals.{InRange, CodesInRange, QualityInRange, Refuses, unformed, parameter, code, quality}
+use Rattle.power_rules.specs.Refusals.{InRange, CodesInRange, Refuses, unformed, parameter, code, quality}
 use Rattle.power_rules.specs.Claims.{RefusalRule, StartRule}
 use Rattle.power_rules.proofs.Whole.{both, and-true, by-test, never}
 use Rattle.power_rules.proofs.Ranges.{usable, formed, well-formed}
@@ -32,16 +32,6 @@ codes-in (Codes pan par) e = let h = both (leb pan 63) (leb par 63) e in (leb-tr
 in-codes : (d : Decoded) → CodesInRange d → codesInRange d ≡ true
 in-codes Failed h = refl
 in-codes (Codes pan par) h = and-true _ _ (le-leb _ _ (h .0)) (le-leb _ _ (h .1))
-
-true-T : (b : Bool) → T b → b ≡ true
-true-T true t = refl
-true-T false t = absurd t
-
-quality-in : (z : ℤ) → qualityInRange z ≡ true → QualityInRange z
-quality-in z e = let h = both (leZ (negℤ (pos 3000)) z) (leZ z (pos 4000)) e in record { lowest = leZ-yes (subst T (sym (h .0)) tt); highest = leZ-yes (subst T (sym (h .1)) tt) }
-
-in-quality : (z : ℤ) → QualityInRange z → qualityInRange z ≡ true
-in-quality z h = and-true _ _ (true-T (leZ (negℤ (pos 3000)) z) (h .lowest .le)) (true-T (leZ z (pos 4000)) (h .highest .le))
 
 -- a test that fails where its words do not hold, and the other way round
 module _ {P : Type 0} (t : Bool) where
@@ -83,7 +73,10 @@ module _ (p : PowerParameters) (r : PowerRecord) (d : Decoded) (sqi : ℤ) where
       read f g =
           by-test (qualityInRange sqi)
           (λ q. absurd (not-refused n f g q e))
-          (λ q. row-is e (says-1 f g q) (quality (formed r f) (usable p (both (parametersInRange p) (codesInRange d) g .0)) (codes-in d (both (parametersInRange p) (codesInRange d) g .1)) (says-no (qualityInRange sqi) (in-quality sqi) q)))
+          (λ q.
+          let given = both (parametersInRange p) (codesInRange d) g in
+          row-is e (says-1 f g q)
+          (quality (formed r f) (usable p (given .0)) (codes-in d (given .1)) (says-no (qualityInRange sqi) (rangeRule .quality sqi .1) q)))
 
       given : wellFormed r ≡ true → (parametersInRange p && codesInRange d) ≡ false → Refuses p r d sqi 7
       given f g =
@@ -98,7 +91,7 @@ module _ (p : PowerParameters) (r : PowerRecord) (d : Decoded) (sqi : ℤ) where
   from-row (unformed w) = says-9 (fails (wellFormed r) (formed r) w)
   from-row (parameter w a) = says-7 (well-formed r w) (fails (parametersInRange p && codesInRange d) (λ g. usable p (both (parametersInRange p) (codesInRange d) g .0)) a)
   from-row (code w a) = says-7 (well-formed r w) (fails (parametersInRange p && codesInRange d) (λ g. codes-in d (both (parametersInRange p) (codesInRange d) g .1)) a)
-  from-row (quality w a b q) = says-1 (well-formed r w) (and-true _ _ (in-range p a) (in-codes d b)) (fails (qualityInRange sqi) (quality-in sqi) q)
+  from-row (quality w a b q) = says-1 (well-formed r w) (and-true _ _ (in-range p a) (in-codes d b)) (fails (qualityInRange sqi) (rangeRule .quality sqi .0) q)
 
 -- ---- a start, and the test of a record
 

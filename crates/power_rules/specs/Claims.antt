@@ -2,9 +2,10 @@
 use Prim.Native.Nat.{ℕ, _+_, _*_, _≤_, _<_, min}
 use mathlib.Core.Path.{_≡_}
 use mathlib.Core.Logic.{_↔_}
-use mathlib.Core.Bool.{true}
 use lib.IntN.{ℤ, pos, _-ℤ_, _*ℤ_}
 use lib.Signed.{shrZ, _≤ℤ_, _<ℤ_}
+use Rattle.refusal.specs.declared.Refusal.{Refusal}
+use Rattle.refusal.specs.Number.{numberOf}
 use Rattle.refusal.specs.Told.{refused, gives}
 use Rattle.refusal.specs.Claims.{OneToOne}
 use Rattle.readings.specs.Rounding.{NearestLower}
@@ -12,19 +13,18 @@ use Rattle.power_rules.specs.declared.PowerParameters.{PowerParameters}
 use Rattle.power_rules.specs.declared.PowerRecord.{PowerRecord}
 use Rattle.power_rules.specs.declared.Decoded.{Decoded}
 use Rattle.power_rules.specs.declared.Decoded.the-variants.{Failed, Codes}
-use Rattle.power_rules.specs.Constants.{numericHighest}
-use Rattle.power_rules.specs.PowerSteps.{wellFormed}
+use Rattle.power_rules.specs.declared.Answer.the-variants.{Send, Refused}
 use Rattle.power_rules.specs.Calls.{ToSend, started, tested, stepped}
 use Rattle.power_rules.specs.Refusals.{InRange, WellFormed, Refuses}
 use Rattle.power_rules.specs.Told.{toldAnswer}
 
 -- whatever a start hands back is well formed, accepted or refused
 abbrev pub StartsWellFormed : Type 0
-StartsWellFormed = (p : PowerParameters) → wellFormed (started p .power) ≡ true
+StartsWellFormed = (p : PowerParameters) → WellFormed (started p .power)
 
 -- whatever a step hands back is well formed if the record that it was given is, accepted or refused
 abbrev pub StaysWellFormed : Type 0
-StaysWellFormed = (p : PowerParameters) (r : PowerRecord) (d : Decoded) (sqi : ℤ) → wellFormed r ≡ true → wellFormed (stepped p r d sqi .power) ≡ true
+StaysWellFormed = (p : PowerParameters) (r : PowerRecord) (d : Decoded) (sqi : ℤ) → WellFormed r → WellFormed (stepped p r d sqi .power)
 
 -- a refused step hands back the record it was given
 abbrev pub RefusedKeepsRecord : Type 0
@@ -37,7 +37,7 @@ TestKeepsRecord = (r : PowerRecord) → tested r .power ≡ r
 -- the PAR to send is 0 to 60, the PAN to send lies in PANmin to PANmax
 pub record WithinLimits (p : PowerParameters) (s : ToSend) : Type 0 where
   pub par-lowest : pos 0 ≤ℤ s .par
-  pub par-highest : s .par ≤ℤ pos numericHighest
+  pub par-highest : s .par ≤ℤ pos 60
   pub pan-lowest : pos (p .panmin) ≤ℤ s .pan
   pub pan-highest : s .pan ≤ℤ pos (p .panmax)
 
@@ -118,6 +118,11 @@ abbrev pub StepRule : Type 0
 StepRule = (p : PowerParameters) (r : PowerRecord) (d : Decoded) (sqi : ℤ) (s : ToSend) → stepped p r d sqi .answer ≡ gives s → ByTheRules p r d sqi (stepped p r d sqi .power) s
 
 -- ---- answers
+
+-- an answer tells its codes, each under its name, and a refusal its number
+pub record AnswersTold : Type 0 where
+  pub codes : (par pan : ℕ) → toldAnswer (Send par pan) ≡ gives (record { par = pos par; pan = pos pan })
+  pub number : (why : Refusal) → toldAnswer (Refused why) ≡ refused (numberOf why)
 
 -- what is told of an answer fixes its case and codes
 abbrev pub AnswersDiffer : Type 0

@@ -2,8 +2,8 @@
 -- `Claims.RefusalRule` says that the calls refuse exactly so.
 use Prim.Native.Nat.{ℕ, _≤_, _%_}
 use mathlib.Core.Path.{_≡_}
-use lib.IntN.{ℤ, pos, negℤ}
-use lib.Signed.{_≤ℤ_}
+use lib.IntN.{ℤ}
+use Rattle.readings.specs.Claims.{QualityInRange}
 use Rattle.power_rules.specs.declared.PowerParameters.{PowerParameters}
 use Rattle.power_rules.specs.declared.PowerRecord.{PowerRecord}
 use Rattle.power_rules.specs.declared.Decoded.{Decoded}
@@ -25,11 +25,6 @@ abbrev pub CodesInRange : Decoded → Type 0
 CodesInRange Failed = Unit {0}
 CodesInRange (Codes pan par) = (pan ≤ 63) × (par ≤ 63)
 
--- "a measured quality SQI in hundredths, -3,000 to 4,000"
-pub record QualityInRange (sqi : ℤ) : Type 0 where
-  pub lowest : negℤ (pos 3000) ≤ℤ sqi
-  pub highest : sqi ≤ℤ pos 4000
-
 -- "Well formed: codes 0 to 60, increase a multiple of 200 in 0 to 24,000."
 pub record WellFormed (r : PowerRecord) : Type 0 where
   pub panlast : r .panlast ≤ 60
@@ -45,5 +40,5 @@ pub data Refuses (p : PowerParameters) (r : PowerRecord) (d : Decoded) (sqi : �
   -- 7: "a .. power parameter out of range; PANmin above PANmax; a code above 63"
   parameter : WellFormed r → ¬ (InRange p) → Refuses p r d sqi 7
   code : WellFormed r → ¬ (CodesInRange d) → Refuses p r d sqi 7
-  -- 1: "a .. quality .. in hundredths, is outside its range"
+  -- 1: "a .. quality .. in hundredths, is outside its range", "-3,000 to 4,000"
   quality : WellFormed r → InRange p → CodesInRange d → ¬ (QualityInRange sqi) → Refuses p r d sqi 1

@@ -1,6 +1,6 @@
 // Power steps: the parameters, the record that a terminal keeps from one power control message to the next, and what the calls answer: the
 // two codes to send. Document 01, section Power steps. The rules and what is claimed of them stand in specs/; the calls stand in the crate `power`.
-ghost use Rattle.power_rules.specs.Claims.{StartsWellFormed, StaysWellFormed, RefusedKeepsRecord, TestKeepsRecord, SendsWithinLimits, RoundsDown, RefusalRule, StartRule, StepRule, AnswersDiffer};
+ghost use Rattle.power_rules.specs.Claims.{StartsWellFormed, StaysWellFormed, RefusedKeepsRecord, TestKeepsRecord, SendsWithinLimits, RoundsDown, RefusalRule, StartRule, StepRule, AnswersTold, AnswersDiffer};
 use refusal::Outcome;
 use refusal::Refusal;
 
@@ -64,5 +64,6 @@ pub fn claimed()
     ensures refusals { λ _. ⌜ RefusalRule ⌝ }
     ensures start { λ _. ⌜ StartRule ⌝ }
     ensures step { λ _. ⌜ StepRule ⌝ }
-    ensures told { λ _. ⌜ AnswersDiffer ⌝ }
+    ensures told { λ _. ⌜ AnswersTold ⌝ }
+    ensures differ { λ _. ⌜ AnswersDiffer ⌝ }
 {}

@@ -1,7 +1,8 @@
--- A burst by its two hundredths, and that these lie in their ranges: a nearest whole number does not leave a range with whole ends.
+-- A burst by what its two floats tell, and that its hundredths lie in their ranges: a nearest whole number does not leave a range with whole ends.
 use mathlib.Core.Path.{_≡_, refl, sym, ap, ap₂, subst, _∙_}
+use mathlib.Core.Logic.{_↔_, _⊎_, inl, inr, ⊎-elim}
 use mathlib.Core.Bool.{Bool, true, false}
-use Prim.Native.Nat.{ℕ, zero, suc, _+_, _*_, _≤_, _<_}
+use Prim.Native.Nat.{ℕ, suc, _+_, _*_, _≤_, _<_}
 use native.Mathlib.Nat.{zero-mul, suc-mul, mul-le-mul-right, mul-right-comm, le-of-suc-le-suc, lt-of-not-le}
 use native.Mathlib.Omega.{arith}
 use lib.Dec.{T}
@@ -17,12 +18,46 @@ use Rattle.readings.specs.declared.Burst.{Burst}
 use Rattle.readings.specs.declared.Burst.the-variants.{Heard, Missed}
 use Rattle.readings.specs.declared.Reading.{Reading}
 use Rattle.readings.specs.Ranges.{inRange, levelLow, levelHigh, qualityLow, qualityHigh, levelInRange, qualityInRange}
-use Rattle.readings.specs.Hundredths.{signed, within, converted, hundredthsOf, whereInRange, levelOf, qualityOf}
-use Rattle.readings.specs.Burst.{BurstResult, burstOf, bothOf, InRange}
+use Rattle.readings.specs.Hundredths.{signed, within, converted, hundredthsOf, levelOf, qualityOf}
+use Rattle.readings.specs.Burst.{BurstResult, heard, burstOf, bothOf, InRange}
 use Rattle.readings.specs.Code.{Near}
+use Rattle.readings.specs.Claims.{BurstRule, BurstInRange}
+use Rattle.readings.proofs.Ranges.{rangeRule}
+use Rattle.readings.proofs.Conversion.{gives-inside, converts}
 use Rattle.readings.proofs.Near.{near-size, sizeOf}
 use Rattle.readings.proofs.Fields.{hundredths-near}
-use Rattle.readings.proofs.Range.{isNeg, order, by-size, zero-factor}
+use Rattle.readings.proofs.Signs.{isNeg, order, by-size, zero-factor}
+
+-- ---- a heard burst by what its two floats tell, each refused with 1 or not at all
+
+both-gives : (s t : Told ℤ) (l q : ℤ) → (bothOf s t ≡ gives (heard l q)) ↔ ((s ≡ gives l) × (t ≡ gives q))
+both-gives (gives a) (gives b) l q = (λ e. (cc, cc), λ h. cc)
+both-gives (gives a) (refused m) l q = (λ e. absurd (gives-refused (sym e)), λ h. absurd (gives-refused (sym (h .1))))
+both-gives (refused m) t l q = (λ e. absurd (gives-refused (sym e)), λ h. absurd (gives-refused (sym (h .0))))
+
+both-refused : (s t : Told ℤ) → ((m : ℕ) → s ≡ refused m → m ≡ 1) → ((m : ℕ) → t ≡ refused m → m ≡ 1)
+    → (n : ℕ) → (bothOf s t ≡ refused n) ↔ ((n ≡ 1) × ((s ≡ refused 1) ⊎ (t ≡ refused 1)))
+both-refused (gives a) (gives b) f g n = (λ e. absurd (gives-refused e), λ h. absurd (⊎-elim gives-refused gives-refused (h .1)))
+both-refused (gives a) (refused m) f g n =
+    let one : m ≡ 1 = g m refl in
+    (λ e. (cc, inr (ap refused one)), λ h. ap refused (one ∙ sym (h .0)))
+both-refused (refused m) t f g n =
+    let one : m ≡ 1 = f m refl in
+    (λ e. (cc, inl (ap refused one)), λ h. ap refused (one ∙ sym (h .0)))
+
+pub burstRule : BurstRule
+burstRule = record {
+  nothing = refl;
+  both = λ r. both-gives (levelOf (r .level)) (qualityOf (r .quality));
+  either = λ r. both-refused (levelOf (r .level)) (qualityOf (r .quality)) (one levelLow levelHigh (r .level)) (one qualityLow qualityHigh (r .quality));
+}
+  where
+    one : (low high : ℤ) (x : Float) (m : ℕ) → converted low high x ≡ refused m → m ≡ 1
+    one low high x m e = converts low high x .refuses m .0 e .0
+
+pub burst-1 : (b : Burst) (n : ℕ) → burstOf b ≡ refused n → n ≡ 1
+burst-1 (Heard r) n e = burstRule .either r n .0 e .0
+burst-1 Missed n e = absurd (gives-refused e)
 
 -- ---- a nearest whole number stays within whole bounds
 module _ (s : Bool) (a w d k : ℕ) (p : 0 < d) (n : Near s (100 * w) d k) where
@@ -81,11 +116,9 @@ hundredths-in lo hi (fin s m e) t =
 
 pub converted-in : (lo hi : ℤ) (x : Float) (h : ℤ) → converted lo hi x ≡ gives h → inRange lo hi h ≡ true
 unfolding converted
-converted-in lo hi x h e = go (within lo hi x) (hundredths-in lo hi x) e
-  where
-    go : (t : Bool) → (T t → T (inRange lo hi (hundredthsOf x))) → whereInRange t (hundredthsOf x) ≡ gives h → inRange lo hi h ≡ true
-    go true f e = let same : hundredthsOf x ≡ h = cc in is-true (inRange lo hi h) (subst (λ (z : ℤ). T (inRange lo hi z)) same (f tt))
-    go false f e = absurd (gives-refused (sym e))
+converted-in lo hi x h e =
+    let i = gives-inside (hundredthsOf x) (within lo hi x) e in
+    is-true (inRange lo hi h) (subst (λ (z : ℤ). T (inRange lo hi z)) (i .1) (hundredths-in lo hi x (i .0)))
 
 both-in : (l q : Told ℤ) → ((h : ℤ) → l ≡ gives h → levelInRange h ≡ true) → ((h : ℤ) → q ≡ gives h → qualityInRange h ≡ true) → InRange (bothOf l q)
 both-in (gives l) (gives q) f g = (f l refl, g q refl)
@@ -97,31 +130,14 @@ burst-in-range (Heard r) =
     both-in (levelOf (r .level)) (qualityOf (r .quality)) (converted-in levelLow levelHigh (r .level)) (converted-in qualityLow qualityHigh (r .quality))
 burst-in-range Missed = tt
 
+pub burstInRange : BurstInRange
+burstInRange b l q e =
+    let i = subst InRange e (burst-in-range b) in
+    (rangeRule .level l .0 (i .0), rangeRule .quality q .0 (i .1))
+
 -- ---- for the code: a heard burst by what its two floats tell, and the range with it
 pub burst-is : {b : Burst} {r : Reading} {l q : Told ℤ} → b ≡ Heard r → l ≡ levelOf (r .level) → q ≡ qualityOf (r .quality) → bothOf l q ≡ burstOf b
 burst-is e f g = ap₂ bothOf f g ∙ ap burstOf (sym e)
 
 pub in-range-too : (b : Burst) {t : Told BurstResult} → t ≡ burstOf b → (t ≡ burstOf b) × InRange t
 in-range-too b e = (e, subst InRange (sym e) (burst-in-range b))
-
--- ---- a burst is refused with 1 and no other number
-converted-1 : (low high : ℤ) (x : Float) (n : ℕ) → converted low high x ≡ refused n → n ≡ 1
-unfolding converted
-converted-1 low high x n e = go (within low high x) e
-  where
-    go : (b : Bool) → whereInRange b (hundredthsOf x) ≡ refused n → n ≡ 1
-    go true q = absurd (gives-refused q)
-    go false q = cc
-
-both-1 : (s t : Told ℤ) (n : ℕ) → ((m : ℕ) → s ≡ refused m → m ≡ 1) → ((m : ℕ) → t ≡ refused m → m ≡ 1) → bothOf s t ≡ refused n → n ≡ 1
-both-1 (gives a) (gives b) n f g e = absurd (gives-refused e)
-both-1 (gives a) (refused m) n f g e = let q : m ≡ n = cc in sym q ∙ g m refl
-both-1 (refused m) t n f g e = let q : m ≡ n = cc in sym q ∙ f m refl
-
-pub burst-1 : (b : Burst) (n : ℕ) → burstOf b ≡ refused n → n ≡ 1
-burst-1 (Heard r) n e =
-    both-1 (converted levelLow levelHigh (r .level)) (converted qualityLow qualityHigh (r .quality)) n
-    (converted-1 levelLow levelHigh (r .level))
-    (converted-1 qualityLow qualityHigh (r .quality))
-    e
-burst-1 Missed n e = absurd (gives-refused e)

@@ -1,9 +1,7 @@
--- The claims on readings and bursts, under their names; the rounding rule is proved in `Rule.antt`.
-use mathlib.Core.Path.{_≡_, refl, sym, ap, subst}
-use lib.Dec.{T, lit<}
-use lib.IntN.{ℤ, pos}
-use lib.Ieee.{Float, binary32, ofInt}
-use lib.Ieee.Fits.{div-fits}
+-- The claims on answers: what each tells, and that this fixes it, as there is a way back.
+use mathlib.Core.Path.{_≡_, refl, ap}
+use lib.IntN.{ℤ}
+use lib.Ieee.{Float}
 use Rattle.refusal.specs.Told.{Told, gives, refused}
 use Rattle.refusal.proofs.OneToOne.{by-way-back, refusalOf, refusal-back}
 use Rattle.readings.specs.declared.Hundredths.{Hundredths}
@@ -12,25 +10,20 @@ use Rattle.readings.specs.declared.Shown.{Shown}
 use Rattle.readings.specs.declared.Shown.the-variants as shown
 use Rattle.readings.specs.declared.BurstHundredths.{BurstHundredths}
 use Rattle.readings.specs.declared.BurstHundredths.the-variants as burst
-use Rattle.readings.specs.Ranges.{levelLow, levelHigh, qualityLow, qualityHigh}
-use Rattle.readings.specs.Float.{floatOf}
 use Rattle.readings.specs.Burst.{BurstResult, heard, missed}
 use Rattle.readings.specs.Told.{toldHundredths, toldShown, toldBurst}
-use Rattle.readings.specs.Claims.{ReadBack, BurstInRange, AnswersDiffer}
-use Rattle.readings.proofs.Back.{read-back}
-use Rattle.readings.proofs.Bursts.{burst-in-range}
+use Rattle.readings.specs.Claims.{AnswersTold, AnswersDiffer}
 
-pub readBack : ReadBack
-unfolding floatOf
-readBack h =
-    record {
-      single = div-fits binary32 (ofInt binary32 h) (ofInt binary32 (pos 100));
-      level = λ t. read-back levelLow levelHigh h (lit< tt) (lit< tt) (subst T (sym t) tt);
-      quality = λ t. read-back qualityLow qualityHigh h (lit< tt) (lit< tt) (subst T (sym t) tt);
-    }
-
-pub burstInRange : BurstInRange
-burstInRange = burst-in-range
+pub answersTold : AnswersTold
+answersTold = record {
+  value = λ h. refl;
+  float = λ x. refl;
+  reading = λ r. refl;
+  nothing = refl;
+  noValue = λ why. refl;
+  noFloat = λ why. refl;
+  noReading = λ why. refl;
+}
 
 -- ---- each way back from what is told
 hundredthsFrom : Told ℤ → Hundredths

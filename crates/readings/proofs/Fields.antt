@@ -2,9 +2,9 @@
 use mathlib.Core.Path.{_≡_, refl, sym, ap, _∙_, subst}
 use mathlib.Core.Bool.{Bool, true, false, not, cond}
 use Prim.Native.Nat.{ℕ, zero, suc, _+_, _-_, _*_, _/_, _%_, _^_, _≤_, _<_}
-use native.Mathlib.Nat.{mul-one, mul-comm, mul-assoc, mul-right-comm, mul-le-mul-left, mul-le-mul, mul-lt-mul-of-pos-right, lt-of-lt-of-le, lt-of-le-of-lt, lt-irrefl, le-of-lt, lt-of-mul-lt-mul-right, lt-of-not-le, lt-div-mul-add, div-mul-le-self, div-lt-iff-lt-mul, pow-succ', mul-lt-mul-of-pos-left, le-of-eq, one-mul, mod-eq-of-lt, sub-zero}
+use native.Mathlib.Nat.{mul-one, mul-comm, mul-assoc, mul-right-comm, mul-le-mul-left, mul-le-mul, mul-lt-mul-of-pos-right, lt-of-lt-of-le, lt-of-le-of-lt, lt-irrefl, lt-of-mul-lt-mul-right, lt-of-not-le, lt-div-mul-add, div-mul-le-self, div-lt-iff-lt-mul, pow-succ', mul-lt-mul-of-pos-left, le-of-eq, one-mul, mod-eq-of-lt, sub-zero}
 use native.Mathlib.Omega.{arith}
-use lib.Dec.{T, leb, ltb, eqb, ltb→lt, lit≤, lit<}
+use lib.Dec.{T, leb, eqb, ltb→lt, lit≤, lit<}
 use lib.Pow.{pow-pos, pow-mono, pow-add}
 use lib.IntN.{ℤ, pos, negℤ, _*ℤ_, _-ℤ_, +ℤ-idl}
 use lib.Signed.{mag}

@@ -4,6 +4,7 @@
 -- 2 ^ (23 + k), a multiple of 2 ^ k that n 2 ^ 149 / 100 reaches, and is further than that.
 use Prim.Native.Nat.{ℕ, zero, suc, _+_, _-_, _*_, _/_, _%_, _^_, _≤_, _<_, compare, Ordering, Ordering·lt, Ordering·eq, Ordering·gt}
 use mathlib.Core.Path.{_≡_, refl, sym, ap, _∙_, subst}
+use mathlib.Core.Logic.{_↔_}
 use mathlib.Core.Bool.{Bool, true, false, not, _&&_}
 use native.Mathlib.Nat.{mul-comm, mul-assoc, mul-right-comm, mul-one, zero-mul, add-mul, mul-add, suc-mul, mul-sub, mul-pos, mod-lt, div-add-mod', div-mul-le-self, mul-le-mul-right, mul-lt-mul-of-pos-right, lt-of-mul-lt-mul-right, eq-of-mul-eq-mul-right, le-of-lt, le-trans, lt-of-lt-of-le, not-le-of-lt, le-antisymm}
 use native.Mathlib.Omega.{arith}
@@ -12,25 +13,26 @@ use lib.Dec.{T, leb, ltb, eqb, isLe, isEq, leb→le, nleb→lt, ltb→lt, eqb→
 use lib.Pow.{pow-pos, pow-lt, pow-mono, pow-add, shl-lt}
 use lib.Arith.{lt-of-le-ne}
 use lib.IntN.{ℤ, pos, negsuc, natAbs, _*ℤ_}
-use lib.Signed.{leZ, ltZ}
-use lib.Ieee.{Float, nan, inf, fin, up, down, binary32, nearest, size, round, fits}
+use lib.Signed.{_<ℤ_, ltZ-yes}
+use lib.Ieee.{Float, nan, inf, fin, up, down, binary32, nearest, size, ofInt, fits}
 use lib.Ieee.Digits.{size-reaches, back}
-use lib.Ieee.Fits.{down-pos, and-i, and-l, and-r, round-fits}
+use lib.Ieee.Fits.{down-pos, and-l, and-r, div-fits}
 use lib.Ieee.Exact.{HasValue}
 use lib.Ieee.Nearest.{closest}
-use lib.Ieee.Bits.{is-true}
-use Rattle.refusal.specs.Told.{Told, gives}
-use Rattle.readings.specs.Ranges.{inRange, levelLow, levelHigh, qualityLow, qualityHigh}
+use Rattle.readings.specs.Ranges.{inHundredths, inRange, levelLow, levelHigh, qualityLow, qualityHigh}
 use Rattle.readings.specs.Rounding.{distance}
-use Rattle.readings.specs.Hundredths.{signed, numerator, whereInRange}
+use Rattle.readings.specs.Hundredths.{signed, numerator}
 use Rattle.readings.specs.Float.{floatOf, shown}
-use Rattle.readings.specs.Claims.{awayFrom, ShowsNearest, ShownRule}
+use Rattle.readings.specs.Claims.{Between, Exactly, plus, minus, awayFrom, ShowsNearest, Shows, ShownRule}
+use Rattle.readings.proofs.Ranges.{in-words, by-words}
+use Rattle.readings.proofs.Conversion.{refused-outside, gives-inside, exactly}
 use Rattle.readings.proofs.Fields.{times}
-use Rattle.readings.proofs.Range.{isNeg, signed-is, scaled, zero-factor, in-size}
+use Rattle.readings.proofs.Signs.{isNeg, signed-is, scaled, zero-factor}
+use Rattle.readings.proofs.Range.{in-size}
 use Rattle.readings.proofs.Rule.{gap, away, byCase, away-is, steps-apart}
-use Rattle.readings.proofs.Back.{dropped, keeps, grid, dropped-le, regroup, whole-step, round-value, float-is}
+use Rattle.readings.proofs.Quotient.{dropped, keeps, grid, dropped-le, regroup, whole-step, round-value, float-is}
 
--- ---- the nearest whole number is within less than a half, where there is ne tie
+-- ---- the nearest whole number is within less than a half, where there is no tie
 abbrev Close : ℕ → ℕ → ℕ → Type 0
 Close a b k = (2 * (k * b) < 2 * a + b) × (2 * a < 2 * (k * b) + b)
 
@@ -68,7 +70,7 @@ module _ (a b k : ℕ) (c : Close a b k) where
       differ : eqb q k ≡ false → q ≡ k → ⊥
       differ e same = eqb-false q k e same
 
--- ---- ne tie: twice n times a multiple of 256 is ne odd multiple of 100
+-- ---- no tie: twice n times a multiple of 256 is no odd multiple of 100
 no-tie-at : (v q X r : ℕ) → 0 < X → q * (100 * X) + r ≡ v * 256 * X → r * 2 ≡ 100 * X → ⊥
 no-tie-at v q X r p e f = even (eq-of-mul-eq-mul-right X p (2 * (v * 256)) (2 * (q * 100) + 100) both)
   where
@@ -225,7 +227,7 @@ cross-less x y d d′ U X Y D D′ e f l =
     (subst (λ (z : ℕ). X * d * d′ < z) (sym (mul-right-comm y d U ∙ ap (λ (z : ℕ). z * d) f ∙ mul-right-comm Y d′ d))
     (mul-lt-mul-of-pos-right (mul-lt-mul-of-pos-right l D) D′)))
 
-away-of : (h : ℤ) (s : Bool) (m : ℕ) (e : ℤ) → awayFrom h s m e ≡ away s (isNeg h) (100 * (m * up e)) (natAbs h * down e)
+away-of : (h : ℤ) (s : Bool) (m : ℕ) (e : ℤ) → awayFrom h (numerator s m e) (down e) ≡ away s (isNeg h) (100 * (m * up e)) (natAbs h * down e)
 away-of h s m e =
     ap (λ (z : ℤ). distance z (down e) h) (times s (m * up e))
     ∙ ap (distance (signed s (100 * (m * up e))) (down e)) (sym (signed-is h))
@@ -252,46 +254,68 @@ module _ (s t : Bool) (w z d d′ U G Y : ℕ) (p : 0 < U) (e : w * U ≡ G * d)
       none b x c q = ap (λ (y : ℕ). signed b y *ℤ pos c) q ∙ ap (λ (y : ℤ). y *ℤ pos c) (zero-signed b) ∙ ap pos (zero-mul c)
 
 -- ---- the float of h
-sign-of : (h : ℤ) → isNeg h ≡ ltZ h (pos 0)
-sign-of (pos n) = sym (le-ltb n 0 (omega arith))
-sign-of (negsuc n) = refl
+sign-of : (h : ℤ) → (isNeg h ≡ true) ↔ (h <ℤ pos 0)
+sign-of (pos n) = (λ e. absurd (subst T (sym e) tt), λ l. absurd (subst T (le-ltb n 0 (omega arith)) (l .lt)))
+sign-of (negsuc n) = (λ e. ltZ-yes tt, λ l. refl)
 
-module _ (h : ℤ) (l : natAbs h < 65536) where
-  nearest-of : (s : Bool) (m : ℕ) (e : ℤ) → HasValue (fin s m e) (isNeg h) (grid (natAbs h)) (2 ^ 149)
-      → (t : Bool) (n : ℕ) (f : ℤ) → T (fits binary32 (fin t n f)) → ¬ (numerator t n f *ℤ pos (down e) ≡ numerator s m e *ℤ pos (down f))
-      → awayFrom h s m e * down f < awayFrom h t n f * down e
-  nearest-of s m e v t n f x ne = go (in-units t n f x)
-    where
-      go : InUnits (n * up f) (down f) → awayFrom h s m e * down f < awayFrom h t n f * down e
-      go y =
-          let w = m * up e in
-          let z = n * up f in
-          let G = grid (natAbs h) in
-          let Y = y .q * 2 ^ y .j in
-          let A = natAbs h * 2 ^ 149 in
-          rw (away-of h s m e, away-of h t n f)
-          (cross-less (away s (isNeg h) (100 * w) (natAbs h * down e)) (away t (isNeg h) (100 * z) (natAbs h * down f)) (down e) (down f) (2 ^ 149)
-          (away s (isNeg h) (100 * G) A) (away t (isNeg h) (100 * Y) A) (down-pos e) (down-pos f)
-          (to-units s (isNeg h) w (down e) G (natAbs h) (2 ^ 149) (v .1)) (to-units t (isNeg h) z (down f) Y (natAbs h) (2 ^ 149) (y .is))
-          (subst (λ (b : Bool). away b (isNeg h) (100 * G) A < away t (isNeg h) (100 * Y) A) (sym (v .0))
-          (apart-more (natAbs h) l (y .q) (y .j) (y .few) (isNeg h) t
-          (λ b g. ne (same-number s t w z (down e) (down f) (2 ^ 149) G Y (pow-pos 149) (v .1) (y .is) (b ∙ sym (v .0)) g))
-          (λ a b. ne (both-zero s t w z (down e) (down f) (2 ^ 149) G Y (pow-pos 149) (v .1) (y .is) a b)))))
+module _ (h : ℤ) (l : natAbs h < 65536) (s : Bool) (m : ℕ) (e : ℤ) (v : HasValue (fin s m e) (isNeg h) (grid (natAbs h)) (2 ^ 149)) where
+  abbrev ours : ℤ
+  ours = numerator s m e
 
-  shows-of : (answer : Told Float) (y : Float) → HasValue y (isNeg h) (grid (natAbs h)) (2 ^ 149) → T (fits binary32 y) → answer ≡ gives y → ShowsNearest h answer
-  shows-of answer nan v x i = absurd v
-  shows-of answer (inf t) v x i = absurd v
-  shows-of answer (fin s m e) v x i = record { s = s; m = m; e = e; is = i; single = x; sign = v .0 ∙ sign-of h; nearest = nearest-of s m e v }
+  nearest-of : (t : Bool) (n : ℕ) (f : ℤ) → InUnits (n * up f) (down f) → ¬ (numerator t n f *ℤ pos (down e) ≡ ours *ℤ pos (down f))
+      → awayFrom h ours (down e) * down f < awayFrom h (numerator t n f) (down f) * down e
+  nearest-of t n f y ne =
+      let w = m * up e in
+      let z = n * up f in
+      let G = grid (natAbs h) in
+      let Y = y .q * 2 ^ y .j in
+      let A = natAbs h * 2 ^ 149 in
+      rw (away-of h s m e, away-of h t n f)
+      (cross-less (away s (isNeg h) (100 * w) (natAbs h * down e)) (away t (isNeg h) (100 * z) (natAbs h * down f)) (down e) (down f) (2 ^ 149)
+      (away s (isNeg h) (100 * G) A) (away t (isNeg h) (100 * Y) A) (down-pos e) (down-pos f)
+      (to-units s (isNeg h) w (down e) G (natAbs h) (2 ^ 149) (v .1)) (to-units t (isNeg h) z (down f) Y (natAbs h) (2 ^ 149) (y .is))
+      (subst (λ (b : Bool). away b (isNeg h) (100 * G) A < away t (isNeg h) (100 * Y) A) (sym (v .0))
+      (apart-more (natAbs h) l (y .q) (y .j) (y .few) (isNeg h) t
+      (λ b g. ne (same-number s t w z (down e) (down f) (2 ^ 149) G Y (pow-pos 149) (v .1) (y .is) (b ∙ sym (v .0)) g))
+      (λ a b. ne (both-zero s t w z (down e) (down f) (2 ^ 149) G Y (pow-pos 149) (v .1) (y .is) a b)))))
 
-shows : (lo hi h : ℤ) → natAbs lo < 656 → natAbs hi < 656 → T (leZ (lo *ℤ pos 100) h) → T (leZ h (hi *ℤ pos 100)) → ShowsNearest h (shown lo hi h)
+  nearer : {y : Float} {i : ℤ} {j : ℕ} → Exactly y i j → T (fits binary32 y) → ¬ (i *ℤ pos (down e) ≡ ours *ℤ pos j)
+      → awayFrom h ours (down e) * j < awayFrom h i j * down e
+  nearer (plus n f) x = nearest-of false n f (in-units false n f x)
+  nearer (minus n f) x = nearest-of true n f (in-units true n f x)
+
+  same-sign : (t : Bool) (n : ℕ) (f : ℤ) → fin s m e ≡ fin t n f → (t ≡ true) ↔ (h <ℤ pos 0)
+  same-sign t n f i = let same : t ≡ s = cc in subst (λ (b : Bool). (b ≡ true) ↔ (h <ℤ pos 0)) (sym (same ∙ v .0)) (sign-of h)
+
+-- it is a single float
+pub float-single : (h : ℤ) → T (fits binary32 (floatOf h))
+unfolding floatOf
+float-single h = div-fits binary32 (ofInt binary32 h) (ofInt binary32 (pos 100))
+
+shows-nearest : (h : ℤ) → natAbs h < 65536 → (x : Float) → HasValue x (isNeg h) (grid (natAbs h)) (2 ^ 149) → T (fits binary32 x) → ShowsNearest h x
+shows-nearest h l nan v f = absurd v
+shows-nearest h l (inf t) v f = absurd v
+shows-nearest h l (fin s m e) v f = record {
+  n = numerator s m e;
+  d = down e;
+  exact = exactly s m e;
+  single = f;
+  sign = same-sign h l s m e v;
+  nearest = λ y i j g k. nearer h l s m e v k g;
+}
+
+shows : (lo hi h : ℤ) → natAbs lo < 656 → natAbs hi < 656 → Shows h (Between (inHundredths lo) (inHundredths hi) h) (shown lo hi h)
 unfolding shown
-shows lo hi h a b p q =
-    let l = in-size lo hi h a b p q in
-    shows-of h l (shown lo hi h) (round binary32 (isNeg h) (natAbs h) 100) (round-value (isNeg h) (natAbs h) l) (round-fits binary32 (isNeg h) (natAbs h) 100)
-    (ap (λ (t : Bool). whereInRange t (floatOf h)) (is-true (inRange lo hi h) (and-i (leZ (lo *ℤ pos 100) h) (leZ h (hi *ℤ pos 100)) p q)) ∙ ap gives (float-is h l))
+shows lo hi h a b = record {
+  refuses = refused-outside (floatOf h) (inRange lo hi h) (in-words lo hi h) (by-words lo hi h);
+  nearest = λ x e. let i = gives-inside (floatOf h) (inRange lo hi h) e in subst (ShowsNearest h) (i .1) (here (in-words lo hi h (i .0)));
+}
+  where
+    here : Between (inHundredths lo) (inHundredths hi) h → ShowsNearest h (floatOf h)
+    here w =
+        let l = in-size lo hi h a b (w .lowest .le) (w .highest .le) in
+        shows-nearest h l (floatOf h)
+        (subst (λ (x : Float). HasValue x (isNeg h) (grid (natAbs h)) (2 ^ 149)) (sym (float-is h l)) (round-value (isNeg h) (natAbs h) l)) (float-single h)
 
 pub shownRule : ShownRule
-shownRule = record {
-  level = λ h p q. shows levelLow levelHigh h (lit< tt) (lit< tt) (p .le) (q .le);
-  quality = λ h p q. shows qualityLow qualityHigh h (lit< tt) (lit< tt) (p .le) (q .le);
-}
+shownRule = record { level = λ h. shows levelLow levelHigh h (lit< tt) (lit< tt); quality = λ h. shows qualityLow qualityHigh h (lit< tt) (lit< tt) }

@@ -1,12 +1,11 @@
 -- A range in whole numbers, tested by comparisons of floats.
 use mathlib.Core.Path.{_≡_, refl, sym, ap, _∙_, subst}
-use mathlib.Core.Bool.{Bool, true, false, not, _&&_, _||_}
+use mathlib.Core.Bool.{Bool, true, false, _&&_, _||_}
 use mathlib.Core.Logic.{_⊎_, inl, inr}
 use Prim.Native.Nat.{ℕ, zero, suc, _+_, _*_, _≤_, _<_, zero-le, suc-le-suc}
-use native.Mathlib.Nat.{mul-one, zero-mul, le-trans, le-of-eq, le-of-lt, lt-of-le-of-lt, lt-of-lt-of-le, mul-le-mul-right, le-of-mul-le-mul-right, mul-right-comm, mul-lt-mul-of-pos-right, eq-or-lt-of-le}
+use native.Mathlib.Nat.{mul-one, zero-mul, le-trans, le-of-lt, lt-of-le-of-lt, lt-of-lt-of-le, mul-le-mul-right, le-of-mul-le-mul-right, mul-right-comm, mul-lt-mul-of-pos-right, eq-or-lt-of-le}
 use native.Mathlib.Omega.{arith}
-use lib.Dec.{T, leb, ltb, eqb, leb→le, le→leb, lt→ltb, leb·zero, leb·suc-zero, leb·suc-suc, eqb·zero-suc, eqb·suc-zero, ltb→lt, eqb→eq, lit≤}
-use lib.Arith.{le-zero}
+use lib.Dec.{T, leb, ltb, eqb, leb→le, le→leb, lt→ltb, leb·zero, ltb→lt, eqb→eq, lit≤}
 use lib.IntN.{ℤ, pos, negsuc, negℤ, natAbs, _*ℤ_}
 use lib.Signed.{leZ, mag}
 use mir.Syntax.{w32}
@@ -15,11 +14,12 @@ use lib.Ieee.{Float, nan, inf, fin, up, down, below, level, le, binary32, ofInt,
 use lib.Ieee.Exact.{HasValue}
 use lib.Ieee.Back.{round-whole}
 use lib.Ieee.Bits.{is-true}
-use lib.Ieee.Fits.{down-pos, and-i, and-l, and-r, eq→eqb}
+use lib.Ieee.Fits.{down-pos, and-l, and-r, eq→eqb}
 use Rattle.refusal.specs.declared.Refusal.the-variants.{ReadingOutOfRange}
 use Rattle.refusal.specs.Told.{gives, refusedFor}
 use Rattle.readings.specs.Hundredths.{signed, within, converted, hundredthsOf, whereInRange}
 use Rattle.readings.specs.Code.{small}
+use Rattle.readings.proofs.Signs.{neg-neg, pos-neg, isNeg, order, by-size, zero-factor}
 
 -- ---- a float's order of two sizes with signs is that of the whole numbers
 same-test : (a b : Bool) → (T a → T b) → (T b → T a) → a ≡ b
@@ -39,10 +39,6 @@ or-r false b t = t
 or-l : (a b : Bool) → T a → T (a || b)
 or-l true b t = tt
 or-l false b t = absurd t
-
-and-false : (a : Bool) → (a && false) ≡ false
-and-false true = refl
-and-false false = refl
 
 and-true : (a : Bool) → (a && true) ≡ a
 and-true true = refl
@@ -64,18 +60,6 @@ split-le a b c d f g = ap (λ (x : Bool). ltb a b || x) (and-true (eqb c d)) ∙
     go (inl e) = or-r (ltb a b) (eqb c d) (eq→eqb (f e))
     go (inr h) = or-l (ltb a b) (eqb c d) (lt→ltb a b h)
 
-pub neg-neg : (a b : ℕ) → leb b a ≡ leZ (negℤ (pos a)) (negℤ (pos b))
-neg-neg zero zero = refl
-neg-neg zero (suc b) = leb·suc-zero b
-neg-neg (suc a) zero = leb·zero (suc a)
-neg-neg (suc a) (suc b) = leb·suc-suc b a
-
-pub pos-neg : (a b : ℕ) → (eqb a b && eqb a 0) ≡ leZ (pos a) (negℤ (pos b))
-pos-neg zero zero = refl
-pos-neg zero (suc b) = ap (λ (x : Bool). x && true) (eqb·zero-suc b)
-pos-neg (suc a) zero = ap (λ (x : Bool). x && x) (eqb·suc-zero a) ∙ sym (leb·suc-zero a)
-pos-neg (suc a) (suc b) = ap (λ (x : Bool). eqb (suc a) (suc b) && x) (eqb·suc-zero a) ∙ and-false (eqb (suc a) (suc b))
-
 neg-pos : (a b : ℕ) → (ltb 0 (a + b) || (eqb a b && eqb a 0)) ≡ leZ (negℤ (pos a)) (pos b)
 neg-pos zero zero = refl
 neg-pos zero (suc b) = ap (λ (x : Bool). x || (eqb 0 (suc b) && true)) (is-true (ltb 0 (0 + suc b)) (lt→ltb 0 (0 + suc b) (omega arith))) ∙ sym (leb·zero (suc b))
@@ -86,39 +70,6 @@ le-signed false false a b = split-le a b a b (λ e. e) (λ e. e)
 le-signed false true a b = pos-neg a b
 le-signed true false a b = neg-pos a b
 le-signed true true a b = split-le b a a b sym sym ∙ neg-neg a b
-
-pub scaled : (t : Bool) (w d : ℕ) → signed t w *ℤ pos d ≡ signed t (w * d)
-scaled false w d = refl
-scaled true zero d = ap pos (zero-mul d) ∙ ap (λ (x : ℕ). negℤ (pos x)) (sym (zero-mul d))
-scaled true (suc w) d = refl
-
--- ---- a whole number is a sign and a size
-abbrev pub isNeg : ℤ → Bool
-isNeg (pos n) = false
-isNeg (negsuc n) = true
-
-pub signed-is : (h : ℤ) → signed (isNeg h) (natAbs h) ≡ h
-signed-is (pos n) = refl
-signed-is (negsuc n) = refl
-
--- one order follows from another
-pub order : (t s : Bool) (x y x′ y′ : ℕ) → (x ≤ y → x′ ≤ y′) → (y ≤ x → y′ ≤ x′) → (x ≡ 0 → x′ ≡ 0) → (y ≡ 0 → y′ ≡ 0)
-    → T (leZ (signed t x) (signed s y)) → T (leZ (signed t x′) (signed s y′))
-order false false x y x′ y′ f g zx zy t = le→leb x′ y′ (f (leb→le x y t))
-order true true x y x′ y′ f g zx zy t = subst T (neg-neg x′ y′) (le→leb y′ x′ (g (leb→le y x (subst T (sym (neg-neg x y)) t))))
-order true false x y zero y′ f g zx zy t = le→leb 0 y′ zero-le
-order true false x y (suc x′) y′ f g zx zy t = tt
-order false true x y x′ y′ f g zx zy t =
-    let both : T (eqb x y && eqb x 0) = subst T (sym (pos-neg x y)) t in
-    let x0 : x ≡ 0 = eqb→eq x 0 (and-r (eqb x y) (eqb x 0) both) in
-    let y0 : y ≡ 0 = sym (eqb→eq x y (and-l (eqb x y) (eqb x 0) both)) ∙ x0 in
-    subst T (pos-neg x′ y′) (and-i (eqb x′ y′) (eqb x′ 0) (eq→eqb (zx x0 ∙ sym (zy y0))) (eq→eqb (zx x0)))
-
-pub by-size : (z : ℤ) (d : ℕ) → z *ℤ pos d ≡ signed (isNeg z) (natAbs z * d)
-by-size z d = ap (λ (y : ℤ). y *ℤ pos d) (sym (signed-is z)) ∙ scaled (isNeg z) (natAbs z) d
-
-pub zero-factor : (x c : ℕ) → 0 < c → x * c ≡ 0 → x ≡ 0
-zero-factor x c p h = le-zero (le-of-mul-le-mul-right {m = x} {n = 0} {k = c} (le-of-eq (h ∙ sym (zero-mul c))) p)
 
 zero-times : (x c : ℕ) → x ≡ 0 → x * c ≡ 0
 zero-times x c h = ap (λ (y : ℕ). y * c) h ∙ zero-mul c

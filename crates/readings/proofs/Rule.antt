@@ -2,21 +2,20 @@
 -- A distance is compared by signs and sizes: of two numbers with one sign it is the gap of their sizes, else their sum. The number k has 2 |n - k d| ≤ d, and any other is at least d from k.
 use Prim.Native.Nat.{ℕ, zero, suc, _+_, _-_, _*_, _≤_, _<_}
 use mathlib.Core.Path.{_≡_, refl, sym, ap, subst, _∙_}
-use mathlib.Core.Bool.{Bool, true, false, not}
+use mathlib.Core.Bool.{Bool, true, false}
 use native.Mathlib.Nat.{suc-mul, mul-le-mul-right, le-antisymm, le-refl, le-of-suc-le-suc, lt-of-not-le}
 use native.Mathlib.Omega.{arith}
 use borrow.Author.Tests.{ltb-true, ltb-false}
-use lib.Dec.{T, ltb, leb, leb→le, le→leb, eqb}
-use lib.IntN.{ℤ, pos, negsuc, negℤ, negℤ-negℤ, natAbs, subℕ, _+ℤ_, _-ℤ_, _*ℤ_}
+use lib.Dec.{T, ltb, leb→le, le→leb, eqb}
+use lib.IntN.{ℤ, pos, negsuc, negℤ, negℤ-negℤ, natAbs, subℕ, _+ℤ_, _-ℤ_}
 use lib.Signed.{leZ, leZ-yes}
-use lib.Ieee.{down}
-use lib.Ieee.Fits.{down-pos, and-i, eq→eqb}
+use lib.Ieee.Fits.{and-i, eq→eqb}
 use Rattle.readings.specs.Rounding.{distance, NearestLower, nearestLower}
-use Rattle.readings.specs.Hundredths.{signed, numerator, hundredthsOf}
+use Rattle.readings.specs.Hundredths.{signed}
 use Rattle.readings.specs.Code.{Near}
-use Rattle.readings.specs.Claims.{RoundingRule, HundredthsRule}
+use Rattle.readings.specs.Claims.{RoundingRule}
 use Rattle.readings.proofs.Near.{near-is, near-size, sizeOf, no-multiple}
-use Rattle.readings.proofs.Range.{isNeg, signed-is, scaled, neg-neg, pos-neg}
+use Rattle.readings.proofs.Signs.{isNeg, signed-is, scaled, neg-neg, pos-neg}
 
 -- ---- the distance of two whole numbers by signs and sizes
 abbrev pub gap : ℕ → ℕ → ℕ
@@ -142,7 +141,3 @@ roundingRule n d p =
     subst (λ (z : ℤ). NearestLower n d z) (sym computed)
     (subst (λ (z : ℤ). NearestLower z d (signed s k)) (signed-is n) (near-nearest s w d k p (near-size s w d p))) in
     record { exists = here; unique = λ j h. only-one n d j (nearestLower n d) h here }
-
-pub hundredthsRule : HundredthsRule
-unfolding hundredthsOf
-hundredthsRule s m e = roundingRule (pos 100 *ℤ numerator s m e) (down e) (down-pos e) .exists

@@ -1,4 +1,4 @@
--- Document 01, section Readings: from a float to hundredths, or refusal 1.
+-- Document 01, section Readings: from a float to hundredths, or refusal 1. `Claims.ConversionRule` says the same in the paper's words.
 use Prim.Native.Nat.{ℕ, _*_}
 use mathlib.Core.Bool.{Bool, true, false, _&&_}
 use lib.IntN.{ℤ, pos, negℤ, _*ℤ_}

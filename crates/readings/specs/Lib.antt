@@ -1,4 +1,4 @@
--- Document 01, section Readings. Start with `Ranges`, `Rounding` and `Hundredths`; `Claims` says what is claimed beyond the contracts.
+-- Document 01, section Readings. Start with `Ranges`, `Rounding` and `Hundredths`; `Claims` says the rules again in the paper's words.
 pub mod Ranges
 pub mod Channels
 pub mod Rounding

@@ -1,4 +1,4 @@
--- Document 01, section Readings: the ranges of a level and a quality. The one place where their ends stand.
+-- Document 01, section Readings: the ranges of a level and a quality. The one place where their ends stand but `Claims`, which pins them.
 use mathlib.Core.Bool.{Bool, _&&_}
 use lib.IntN.{ℤ, pos, negℤ, _*ℤ_}
 use lib.Signed.{leZ}

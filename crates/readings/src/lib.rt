@@ -9,7 +9,7 @@ ghost use Rattle.readings.specs.Burst.{burstOf, InRange};
 ghost use Rattle.readings.specs.Told.{toldHundredths, toldShown, toldBurst};
 ghost use Rattle.readings.specs.Back.{levelBack, qualityBack};
 ghost use Rattle.readings.specs.Code.{Near, inUnits, small};
-ghost use Rattle.readings.specs.Claims.{RoundingRule, HundredthsRule, ShownRule, ReadBack, BurstInRange, AnswersDiffer};
+ghost use Rattle.readings.specs.Claims.{RangeRule, RoundingRule, ConversionRule, ShownRule, ReadBack, BurstRule, BurstInRange, AnswersTold, AnswersDiffer};
 use refusal::Refusal;
 
 // What the modem measures in a burst that it hears: a level in dBm and a quality in dB.
@@ -207,10 +207,13 @@ pub fn burst_to_hundredths(b: Burst) -> BurstHundredths
 
 // Nothing to run: its contract is all that is claimed of the readings beyond the calls, so that the check asks for the proof of each.
 pub fn claimed()
+    ensures range { λ _. ⌜ RangeRule ⌝ }
     ensures rounding { λ _. ⌜ RoundingRule ⌝ }
-    ensures hundredths { λ _. ⌜ HundredthsRule ⌝ }
+    ensures conversion { λ _. ⌜ ConversionRule ⌝ }
     ensures shown { λ _. ⌜ ShownRule ⌝ }
     ensures back { λ _. ⌜ ReadBack ⌝ }
-    ensures burst { λ _. ⌜ BurstInRange ⌝ }
-    ensures told { λ _. ⌜ AnswersDiffer ⌝ }
+    ensures burst { λ _. ⌜ BurstRule ⌝ }
+    ensures inside { λ _. ⌜ BurstInRange ⌝ }
+    ensures told { λ _. ⌜ AnswersTold ⌝ }
+    ensures differ { λ _. ⌜ AnswersDiffer ⌝ }
 {}

@@ -8,14 +8,15 @@ use mathlib.Core.List.{List, [], _∷_, _++_, map, map-append, append-nil, appen
 use mathlib.Core.List.{List·Memᴰ·tail, List·Memᴰ·not-nil, List·Memᴰ·cases-cons, Memᴰ·append-left, Memᴰ·append-right, List·Memᴰ·append-cases, List·Memᴰ·eq-of-singleton}
 use native.Mathlib.Omega.{arith}
 use lib.ListN.{length, getD, replicate, length-append, length-replicate}
-use lib.IntN.{ℤ, pos, negℤ}
-use lib.Signed.{_≤ℤ_, leZ-yes}
+use lib.IntN.{ℤ, pos}
 use Rattle.refusal.specs.Told.{Told, refused, gives}
 use Rattle.refusal.proofs.OneToOne.{gives-refused}
 use Rattle.readings.specs.declared.Burst.{Burst}
 use Rattle.readings.specs.declared.Burst.the-variants.{Heard, Missed}
 use Rattle.readings.specs.declared.Reading.{Reading}
 use Rattle.readings.specs.Ranges.{levelLow, levelHigh}
+use Rattle.readings.specs.Claims.{LevelInRange}
+use Rattle.readings.proofs.Ranges.{rangeRule}
 use Rattle.readings.specs.Hundredths.{levelOf}
 use Rattle.readings.proofs.Bursts.{converted-in}
 use Rattle.sweep_rules.specs.Map.{channels, bitAt, isSet, setBits}
@@ -26,17 +27,13 @@ use Rattle.sweep_rules.specs.declared.Sweep.{Sweep}
 use Rattle.sweep_rules.proofs.Tests.{same-or-not, fails, clash, same-test, many-none, many-more, many-same}
 use Rattle.sweep_rules.proofs.ReadRecord.{freshRule}
 use Rattle.sweep_rules.proofs.Levels.{no-bit}
-use Rattle.sweep_rules.proofs.Formed.{level-ends, not-heard, wellFormedRule}
+use Rattle.sweep_rules.proofs.Formed.{not-heard, wellFormedRule}
 use Rattle.sweep_rules.proofs.Refusals.{to-row, from-row}
 use Rattle.sweep_rules.proofs.OneFiling.{Passed, passed, filingRule}
 use Rattle.sweep_rules.proofs.Sequences.{sequenceRule}
 
--- -15,000 to 0
-abbrev Ends : ℤ → Type 0
-Ends z = (negℤ (pos 15000) ≤ℤ z) × (z ≤ℤ pos 0)
-
-zero-ends : Ends (pos 0)
-zero-ends = (leZ-yes tt, leZ-yes tt)
+zero-in : LevelInRange (pos 0)
+zero-in = rangeRule .level (pos 0) .0 refl
 
 -- ---- an accepted filing leaves a well formed record
 
@@ -54,12 +51,12 @@ module _ (s : Sweep) (c : ℕ) (b : Burst) (t : Sweep) (P : Passed s c) (F : Fil
   other-level (Heard r) is d n = F .levelKept r is d n
   other-level Missed is d n = F .levelsKept is d
 
-  own-level : (x : Burst) → b ≡ x → Ends (levelAt t c) × (heard t c ≡ false → levelAt t c ≡ pos 0)
+  own-level : (x : Burst) → b ≡ x → LevelInRange (levelAt t c) × (heard t c ≡ false → levelAt t c ≡ pos 0)
   own-level (Heard r) is = (
-    level-ends (levelAt t c) (converted-in levelLow levelHigh (r .level) (levelAt t c) (F .levelStored r is)),
+    rangeRule .level (levelAt t c) .0 (converted-in levelLow levelHigh (r .level) (levelAt t c) (F .levelStored r is)),
     λ n. absurd (clash (F .hears r is c .1 (inr refl)) n),
   )
-  own-level Missed is = (subst Ends (sym (F .levelZero is)) zero-ends, λ n. F .levelZero is)
+  own-level Missed is = (subst LevelInRange (sym (F .levelZero is)) zero-in, λ n. F .levelZero is)
 
   heard-visited : (d : ℕ) → d < 1088 → heard t d ≡ true → visited t d ≡ true
   heard-visited d l h = F .visits d .1 (⊎-map (P .formed .heardVisited d l) (λ (q : d ≡ c). q) (heard-more b refl d h))
@@ -80,8 +77,8 @@ module _ (s : Sweep) (c : ℕ) (b : Burst) (t : Sweep) (P : Passed s c) (F : Fil
         (λ (o : d ≡ c → ⊥). other-level b refl d o ∙ P .formed .levelZero d l (fails (heard s d) (λ h. clash (heard-still b refl d h) n)))
         (same-or-not d c);
     levelInRange = λ d l. ⊎-elim
-        (λ (q : d ≡ c). subst (λ (x : ℕ). Ends (levelAt t x)) (sym q) (own-level b refl .0))
-        (λ (o : d ≡ c → ⊥). subst Ends (sym (other-level b refl d o)) (P .formed .levelInRange d l))
+        (λ (q : d ≡ c). subst (λ (x : ℕ). LevelInRange (levelAt t x)) (sym q) (own-level b refl .0))
+        (λ (o : d ≡ c → ⊥). subst LevelInRange (sym (other-level b refl d o)) (P .formed .levelInRange d l))
         (same-or-not d c);
   }
 
@@ -232,7 +229,7 @@ fresh-shows = record {
     visitedInside = λ c l v. absurd (clash v (none-visited c));
     heardInside = λ c l h. absurd (clash h (none-heard c));
     levelZero = λ c l n. fresh-level c;
-    levelInRange = λ c l. subst Ends (sym (fresh-level c)) zero-ends;
+    levelInRange = λ c l. subst LevelInRange (sym (fresh-level c)) zero-in;
   };
   visits = marks-none (freshSweep .visited) none-visited;
   hears = marks-none (freshSweep .heard) none-heard;

@@ -8,11 +8,11 @@ use mathlib.Core.List.{List}
 use native.Mathlib.Nat.{not-suc-le-zero, div-one}
 use native.Mathlib.Omega.{arith}
 use lib.ListN.{getD}
-use lib.IntN.{ℤ, pos, negℤ}
-use lib.Signed.{leZ, _≤ℤ_}
+use lib.IntN.{pos}
 use lib.Dec.{eqb, leb}
 use borrow.Author.Tests.{eqb-true, eq-eqb, leb-true, leb-false, le-leb}
 use Rattle.readings.specs.Ranges.{levelInRange}
+use Rattle.readings.proofs.Ranges.{rangeRule}
 use Rattle.readings.specs.Channels.{channelHighest}
 use Rattle.sweep_rules.specs.Map.{channels, bitAt, isSet, allBelow}
 use Rattle.sweep_rules.specs.Record.{firstSwept, lastSwept, swept, visited, heard, levelAt, implies, isZero, heardWhereVisited, noBitOutside, zeroWhereNotHeard, levelsInRange, wellFormed}
@@ -22,7 +22,7 @@ use Rattle.sweep_rules.specs.declared.Sweep.{Sweep}
 use Rattle.sweep_rules.proofs.Tests.{implied, follows, which, same-or-not, both, left, right, fails, clash, same-test, each-all, all-each}
 use Rattle.sweep_rules.proofs.Words.{digit-one, digit-zero}
 use Rattle.sweep_rules.proofs.Maps.{set-in-word}
-use Rattle.sweep_rules.proofs.Levels.{le-fact, fact-le, is-zero, zero-is}
+use Rattle.sweep_rules.proofs.Levels.{is-zero, zero-is}
 
 -- ---- tests that follow from tests
 
@@ -58,12 +58,6 @@ swept-ends c e = (leb-true 2 c (left (leb 2 c) (leb c 1086) e), leb-true c 1086 
 pub ends-swept : (c : ℕ) → (2 ≤ c) × (c ≤ 1086) → swept c ≡ true
 ends-swept c h = both (le-leb 2 c (h .0)) (le-leb c 1086 (h .1))
 
-pub level-ends : (z : ℤ) → levelInRange z ≡ true → (negℤ (pos 15000) ≤ℤ z) × (z ≤ℤ pos 0)
-level-ends z e = (le-fact (left (leZ (negℤ (pos 15000)) z) (leZ z (pos 0)) e), le-fact (right (leZ (negℤ (pos 15000)) z) (leZ z (pos 0)) e))
-
-ends-level : (z : ℤ) → (negℤ (pos 15000) ≤ℤ z) × (z ≤ℤ pos 0) → levelInRange z ≡ true
-ends-level z h = both (fact-le (h .0)) (fact-le (h .1))
-
 -- ---- the four parts
 
 module _ (s : Sweep) where
@@ -84,7 +78,7 @@ module _ (s : Sweep) where
         visitedInside = λ c l v. swept-ends c (follows (visited s c || heard s c) (swept c) (outside c l) (or-left (visited s c) (heard s c) v));
         heardInside = λ c l h. swept-ends c (follows (visited s c || heard s c) (swept c) (outside c l) (or-right (visited s c) (heard s c) h));
         levelZero = λ c l n. is-zero (levelAt s c) (follows (not (heard s c)) (isZero (levelAt s c)) (silent c l) (negated (heard s c) n));
-        levelInRange = λ c l. level-ends (levelAt s c) (all-each channels (λ c. levelInRange (levelAt s c)) d c l);
+        levelInRange = λ c l. rangeRule .level (levelAt s c) .0 (all-each channels (λ c. levelInRange (levelAt s c)) d c l);
       }
 
   -- its parts by the tests of the definition
@@ -95,7 +89,7 @@ module _ (s : Sweep) where
   heard-swept w c l h = ends-swept c (w .heardInside c l h)
 
   pub level-range : WellFormed s → (c : ℕ) → c < channels → levelInRange (levelAt s c) ≡ true
-  level-range w c l = ends-level (levelAt s c) (w .levelInRange c l)
+  level-range w c l = rangeRule .level (levelAt s c) .1 (w .levelInRange c l)
 
   pub formed : WellFormed s → wellFormed s ≡ true
   unfolding wellFormed heardWhereVisited noBitOutside zeroWhereNotHeard levelsInRange
@@ -189,7 +183,7 @@ module _ (s : Sweep) where
         visitedInside = vs;
         heardInside = λ c l h. vs c l (hv c l h);
         levelZero = λ c l n. is-zero (levelAt s c) (or-first (isZero (levelAt s c)) (heard s c) (right (levelInRange (levelAt s c)) (isZero (levelAt s c) || heard s c) (level-fine c l)) n);
-        levelInRange = λ c l. level-ends (levelAt s c) (left (levelInRange (levelAt s c)) (isZero (levelAt s c) || heard s c) (level-fine c l));
+        levelInRange = λ c l. rangeRule .level (levelAt s c) .0 (left (levelInRange (levelAt s c)) (isZero (levelAt s c) || heard s c) (level-fine c l));
       }
 
   pub formed-ends : WellFormed s → endsClear (s .visited) ≡ true

@@ -5,8 +5,7 @@ use mathlib.Core.Bool.{Bool, true, false, _||_, cond}
 use mathlib.Core.Logic.{_↔_, _⊎_}
 use mathlib.Core.List.{List, [], _∷_, _++_, map, List·Memᴰ}
 use lib.ListN.{length, getD, replicate}
-use lib.IntN.{pos, negℤ}
-use lib.Signed.{_≤ℤ_}
+use lib.IntN.{pos}
 use lib.Count.{ones}
 use lib.Dec.{eqb}
 use Rattle.refusal.specs.declared.Refusal.{Refusal}
@@ -16,6 +15,7 @@ use Rattle.refusal.specs.Claims.{OneToOne}
 use Rattle.readings.specs.declared.Burst.{Burst}
 use Rattle.readings.specs.declared.Burst.the-variants.{Heard, Missed}
 use Rattle.readings.specs.declared.Reading.{Reading}
+use Rattle.readings.specs.Claims.{LevelInRange}
 use Rattle.readings.specs.Hundredths.{levelOf, qualityOf}
 use Rattle.sweep_rules.specs.Map.{isSet, withBit, setBits}
 use Rattle.sweep_rules.specs.Record.{visited, heard, levelAt, freshSweep, finished, wellFormed}
@@ -73,7 +73,7 @@ pub record WellFormed (s : Sweep) : Type 0 where
   -- "level 0 where not heard"
   pub levelZero : (c : ℕ) → c < 1088 → heard s c ≡ false → levelAt s c ≡ pos 0
   -- "each level in -15,000 to 0"
-  pub levelInRange : (c : ℕ) → c < 1088 → (negℤ (pos 15000) ≤ℤ levelAt s c) × (levelAt s c ≤ℤ pos 0)
+  pub levelInRange : (c : ℕ) → c < 1088 → LevelInRange (levelAt s c)
 
 -- the test of a record holds exactly when they do
 abbrev pub WellFormedRule : Type 0

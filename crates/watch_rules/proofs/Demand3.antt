@@ -102,7 +102,7 @@ count-tracks : (c : ℕ) (rs : List Row) → countOf c (map trackOf rs) ≡ leng
 count-tracks c [] = refl
 count-tracks c (r ∷ rs) = byCase (eqb (r .channel) c) (λ q. rw q) (λ q. rw q (count-tracks c rs))
 
-count-record : (c : ℕ) (rs : List Row) → countOf c (take (recordOf rs .watched) (recordOf rs .tracks)) ≡ length (levelsOf c rs)
+pub count-record : (c : ℕ) (rs : List Row) → countOf c (take (recordOf rs .watched) (recordOf rs .tracks)) ≡ length (levelsOf c rs)
 count-record c rs =
     ap (λ (n : ℕ). countOf c (take n (padTo room unused (map trackOf rs)))) (sym (length-map rs trackOf))
     ∙ ap (countOf c) (take-padTo room unused (map trackOf rs))

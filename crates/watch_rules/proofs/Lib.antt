@@ -10,6 +10,8 @@ pub mod Order
 pub mod Best
 pub mod Answers
 pub mod Refusals
+pub mod PlainSteps
+pub mod Sequence
 pub mod Relist
 pub mod Swap
 pub mod Steps
@@ -20,4 +22,5 @@ pub mod Reach
 pub mod Verdict
 pub mod Mean
 pub mod Unchanged
+pub mod Follows
 pub mod Told

@@ -20,7 +20,8 @@ use Rattle.readings.specs.declared.Burst.the-variants.{Heard}
 use Rattle.readings.specs.Ranges.{levelInRange}
 use Rattle.readings.specs.Float.{floatOf}
 use Rattle.readings.specs.Burst.{BurstResult, heard, bothOf, burstOf}
-use Rattle.readings.proofs.Claims.{readBack}
+use Rattle.readings.proofs.NearestFloat.{float-single}
+use Rattle.readings.proofs.Back.{level-back, quality-back}
 use Rattle.watch_rules.specs.declared.Watch.{Watch}
 use Rattle.watch_rules.specs.Lists.{mem, distinct, every}
 use Rattle.readings.specs.Channels.{channelHighest, channelInRange}
@@ -35,6 +36,7 @@ use Rattle.watch_rules.proofs.Good.{levelsOk, rowFine, Good, good-fits,
 use Rattle.watch_rules.proofs.Encode.{rows-record, well-formed-record, read-record, Read}
 use Rattle.watch_rules.proofs.Calls.{called-record, refuse-later, first-watched}
 use Rattle.watch_rules.proofs.Steps.{channels-fine}
+use Rattle.watch_rules.proofs.Sequence.{after-more}
 use Rattle.watch_rules.proofs.Demand3.{linked}
 
 -- ---- rows that calls leave
@@ -48,10 +50,6 @@ left-good rs r =
     let l = linked (r .calls) in
     let one : l .held ≡ rs = sym (rows-record (l .held)) ∙ ap rows (sym (l .made) ∙ r .leave) ∙ rows-record rs in
     subst Good one (l .kept .good)
-
-after-more : (w : Watch) (ks : List Call) (k : Call) → afterFrom w (ks ++ k ∷ []) ≡ called (afterFrom w ks) k .watch
-after-more w [] k = refl
-after-more w (j ∷ ks) k = after-more (called w j .watch) ks k
 
 made-more : (ks : List Call) (k : Call) → AllCanBeMade ks → CanBeMade k → AllCanBeMade (ks ++ k ∷ [])
 made-more [] k a b = (b, tt)
@@ -77,14 +75,14 @@ burstFor x = Heard (record { level = floatOf x; quality = floatOf (pos 0) })
 
 burst-for : (x : ℤ) → levelInRange x ≡ true → burstOf (burstFor x) ≡ gives (heard x (pos 0))
 unfolding burstFor
-burst-for x e = ap₂ bothOf (readBack x .level e) (readBack (pos 0) .quality refl)
+burst-for x e = ap₂ bothOf (level-back x e) (quality-back (pos 0) refl)
 
 channel-fits : (c : ℕ) → channelInRange c ≡ true → Fits w16 c
 channel-fits c e = let h = leb-true c channelHighest e in record { fits = omega arith }
 
 file-made : (c : ℕ) (x : ℤ) → channelInRange c ≡ true → CanBeMade (file c (burstFor x))
 unfolding burstFor
-file-made c x e = (channel-fits c e, (readBack x .single, readBack (pos 0) .single))
+file-made c x e = (channel-fits c e, (float-single x, float-single (pos 0)))
 
 -- ---- a channel's row among the others
 

@@ -2,31 +2,30 @@
 -- decides the tests.
 use Prim.Native.Nat.{ℕ, _<_}
 use mathlib.Core.Path.{_≡_, refl, sym, ap, _∙_, subst}
-use mathlib.Core.Logic.{_↔_, inl, inr}
+use mathlib.Core.Logic.{inl, inr}
 use mathlib.Core.Bool.{Bool, true, false, not, _&&_, _||_, or-true}
 use mathlib.Core.List.{List}
 use mathlib.Core.Option.{Option, none, some, Option·some-ne-none}
 use native.Mathlib.Omega.{arith}
 use lib.Dec.{leb}
 use lib.IntN.{ℤ, pos}
-use lib.Signed.{leZ, _≤ℤ_, _<ℤ_, clashℤ}
+use lib.Signed.{leZ, _<ℤ_, clashℤ}
 use lib.ListN.{length}
-use borrow.Author.Tests.{le-leb, lt-leb, leb-true, leb-false}
+use borrow.Author.Tests.{lt-leb, leb-true, leb-false}
 use Rattle.refusal.specs.declared.Refusal.{Refusal}
 use Rattle.refusal.specs.declared.Refusal.the-variants as why
 use Rattle.refusal.specs.Number.{numberOf}
 use Rattle.refusal.specs.Told.{Told, refused, gives}
 use Rattle.refusal.proofs.OneToOne.{gives-refused}
-use Rattle.readings.specs.declared.Burst.{Burst}
 use Rattle.readings.specs.Channels.{channelInRange}
 use Rattle.readings.specs.Burst.{BurstResult, burstOf}
 use Rattle.readings.proofs.Bursts.{burst-1}
-use Rattle.watch_rules.specs.Lists.{timesIn, distinct, every, is}
+use Rattle.watch_rules.specs.Lists.{distinct, every, is}
 use Rattle.watch_rules.specs.Limits.{listLimit, hysteresisInRange}
-use Rattle.watch_rules.specs.Told.{Call, start, newList, move, file, ask, verdict, Given, accepted}
-use Rattle.watch_rules.specs.Rules.{View, watched, serves, listSound, refuseUnless, burstRefusal, refusal, answer, granted}
+use Rattle.watch_rules.specs.Told.{Call, start, newList, move, file, ask, verdict, Given}
+use Rattle.watch_rules.specs.Rules.{watched, serves, listSound, refuseUnless, burstRefusal, refusal, answer, granted}
 use Rattle.watch_rules.specs.Plain.{Plain, seen}
-use Rattle.watch_rules.specs.Refusals.{Watched, Faulty, tooLong, above, repeated, servingIn, Refuses, hysteresisBelow, hysteresisAbove, startAbove, listFaulty, fileNotWatched, askNotWatched, moveNotListed, listIdle, verdictIdle, burstOutOfRange}
+use Rattle.watch_rules.specs.Refusals.{Watched, Faulty, tooLong, above, repeated, servingIn, Refuses, Accepted, hysteresisBelow, hysteresisAbove, startAbove, listFaulty, fileNotWatched, askNotWatched, moveNotListed, listIdle, verdictIdle, burstOutOfRange}
 use Rattle.watch_rules.proofs.Laws.{byCase, clash, and-left, and-right, and-both, not-is, or-true-right}
 use Rattle.watch_rules.proofs.Order.{le-yes, by-order}
 use Rattle.watch_rules.proofs.Calls.{refuse-now, refuse-later, refused-answer, granted-answer}
@@ -46,7 +45,7 @@ module _ (p : Plain) (c : ℕ) where
   yes-watched (inl e) = ap (λ (b : Bool). b || p .neighbour c) (some-is (p .serving) c e)
   yes-watched (inr e) = ap (λ (b : Bool). is (p .serving) c || b) e ∙ or-true (is (p .serving) c)
 
-  no-watched : ¬ (Watched p c) → watched (seen p) c ≡ false
+  pub no-watched : ¬ (Watched p c) → watched (seen p) c ≡ false
   no-watched n = byCase (watched (seen p) c) (λ e. absurd (n (watched-yes e))) (λ e. e)
 
 serves-none : (o : Option ℕ) → serves o ≡ false → o ≡ none
@@ -184,10 +183,13 @@ module _ (p : Plain) where
           let m : numberOf r ≡ n = cc in
           subst (Refuses p k) m (row-of k r q)
 
-  -- where no row fits, the call is granted
-  pub no-row : (k : Call) → ((n : ℕ) → ¬ (Refuses p k n)) → answer (seen p) k ≡ gives (granted (seen p) k)
-  no-row k none-fits = go (refusal (seen p) k) refl
+  -- where no row fits, nothing refuses the call, and it is granted
+  pub no-refusal : (k : Call) → Accepted p k → refusal (seen p) k ≡ none
+  no-refusal k none-fits = go (refusal (seen p) k) refl
     where
-      go : (o : Option Refusal) → refusal (seen p) k ≡ o → answer (seen p) k ≡ gives (granted (seen p) k)
-      go none q = granted-answer (seen p) k q
+      go : (o : Option Refusal) → refusal (seen p) k ≡ o → refusal (seen p) k ≡ none
+      go none q = q
       go (some r) q = absurd (none-fits (numberOf r) (row-of k r q))
+
+  pub no-row : (k : Call) → Accepted p k → answer (seen p) k ≡ gives (granted (seen p) k)
+  no-row k none-fits = granted-answer (seen p) k (no-refusal k none-fits)

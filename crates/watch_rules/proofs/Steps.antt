@@ -14,7 +14,7 @@ use Rattle.refusal.specs.declared.Refusal.the-variants as why
 use Rattle.refusal.specs.Told.{Told, refused, gives}
 use Rattle.readings.specs.Ranges.{levelInRange}
 use Rattle.readings.specs.Burst.{BurstResult, heard, missed, burstOf, InRange}
-use Rattle.readings.proofs.Claims.{burstInRange}
+use Rattle.readings.proofs.Bursts.{burst-in-range}
 use Rattle.watch_rules.specs.Lists.{mem, distinct, every, is, lastN}
 use Rattle.readings.specs.Channels.{channelInRange}
 use Rattle.watch_rules.specs.Limits.{listLimit, depth, room}
@@ -217,6 +217,6 @@ step rs p (move c) s e = step-move rs p c s (passed-test why.NotWatched (mem c (
 step rs p (file c b) s e =
     step-file rs p c (burstOf b) s
     (sym (first-watched rs c) ∙ passed-test why.NotWatched (watched (shown rs) c) (burstRefusal (burstOf b)) e)
-    (burstInRange b)
+    (burst-in-range b)
 step rs p (ask c) s e = s
 step rs p (verdict h) s e = s

@@ -1,4 +1,4 @@
--- What is told of an answer fixes it: there is a way back.
+-- What is told of an answer is what its name says, and fixes it: there is a way back.
 use mathlib.Core.Path.{_≡_, refl, ap}
 use Rattle.refusal.specs.Told.{Told, refused, gives}
 use Rattle.refusal.proofs.OneToOne.{by-way-back, refusalOf, refusal-back}
@@ -6,7 +6,11 @@ use Rattle.watch_rules.specs.declared.Answer.{Answer}
 use Rattle.watch_rules.specs.declared.Answer.the-variants.{Accepted, Refused, Levels, Wait, Stay, MoveTo}
 use Rattle.watch_rules.specs.declared.Handed.{Handed}
 use Rattle.watch_rules.specs.Told.{Given, accepted, levels, wait, stay, moveTo, told, Called, toldHanded}
-use Rattle.watch_rules.specs.Claims.{AnswersDiffer}
+use Rattle.watch_rules.specs.Claims.{AnswersTold, AnswersDiffer}
+
+pub answersTold : AnswersTold
+answersTold =
+    record { accepts = refl; asked = λ count mean. refl; waits = refl; stays = refl; moves = λ c. refl; number = λ why. refl }
 
 answerOf : Told Given → Answer
 answerOf (refused n) = Refused (refusalOf n)

@@ -1,15 +1,16 @@
 -- The words for lists that the rules are written in, each by how often a channel is in a list. Down the list.
-use Prim.Native.Nat.{ℕ, suc, _≤_, _<_}
+use Prim.Native.Nat.{ℕ, suc, _+_, _≤_, _<_}
 use mathlib.Core.Path.{_≡_, refl, sym, ap, _∙_}
-use mathlib.Core.Bool.{Bool, true, false, not, _&&_}
-use mathlib.Core.List.{List, [], _∷_}
+use mathlib.Core.Bool.{Bool, true, false, not}
+use mathlib.Core.List.{List, [], _∷_, _++_}
 use mathlib.Core.Option.{Option, none, some}
 use native.Mathlib.Omega.{arith}
 use lib.Dec.{eqb}
-use borrow.Author.Tests.{eqb-true, eq-eqb}
-use Rattle.watch_rules.specs.Lists.{mem, timesIn, distinct, every, is}
+use lib.IntN.{ℤ, _+ℤ_, +ℤ-idl, +ℤ-idr, +ℤ-assoc}
+use borrow.Author.Tests.{eqb-true, eq-eqb, ne-eqb}
+use Rattle.watch_rules.specs.Lists.{mem, timesIn, distinct, every, is, sum}
 use Rattle.watch_rules.specs.Claims.{WordsRule}
-use Rattle.watch_rules.proofs.Laws.{byCase, clash, and-left, and-right, and-both, not-is, or-false-left, or-false-right, or-true-right}
+use Rattle.watch_rules.proofs.Laws.{byCase, clash, and-left, and-right, not-is, or-false-left, or-false-right, or-true-right}
 
 -- ---- in the list
 
@@ -31,6 +32,17 @@ times-more c d l = byCase (eqb d c) (λ q. rw q (omega arith)) (λ q. rw q (omeg
 
 times-first : (c : ℕ) (l : List ℕ) → timesIn c (c ∷ l) ≡ suc (timesIn c l)
 times-first c l = rw (eq-eqb c c refl)
+
+times-joined : (c : ℕ) (l m : List ℕ) → timesIn c (l ++ m) ≡ timesIn c l + timesIn c m
+times-joined c [] m = omega arith
+times-joined c (d ∷ l) m =
+    byCase (eqb d c) (λ q. rw q (omega (arith, times-joined c l m))) (λ q. rw q (times-joined c l m))
+
+-- ---- the sum
+
+sum-joined : (l m : List ℤ) → sum (l ++ m) ≡ sum l +ℤ sum m
+sum-joined [] m = sym (+ℤ-idl (sum m))
+sum-joined (x ∷ l) m = ap (λ (z : ℤ). x +ℤ z) (sum-joined l m) ∙ sym (+ℤ-assoc x (sum l) (sum m))
 
 -- ---- no channel twice
 
@@ -85,6 +97,11 @@ some-is o c e = ap (λ (x : Option ℕ). is x c) e ∙ eq-eqb c c refl
 pub wordsRule : WordsRule
 wordsRule =
     record {
+      timesOne = λ c. times-first c [];
+      timesOther = λ c d n. rw (ne-eqb d c n);
+      timesJoined = times-joined;
+      sumOne = λ x. +ℤ-idr x;
+      sumJoined = sum-joined;
       among = λ c l. (mem-times c l, times-mem c l);
       apart = λ l. (
         distinct-times l,

@@ -1,33 +1,37 @@
 -- Demand 3, and what else is claimed of the watch. Proved in `proofs/`, each under its name with a small first letter.
-use Prim.Native.Nat.{ℕ, _≤_, _<_, min}
+use Prim.Native.Nat.{ℕ, _+_, _≤_, _<_, min}
 use mathlib.Core.Path.{_≡_}
 use mathlib.Core.Logic.{_↔_}
 use mathlib.Core.Bool.{Bool, true, false, cond}
-use mathlib.Core.List.{List, [], _∷_, _++_}
+use mathlib.Core.List.{List, [], _∷_, _++_, List·Memᴰ}
 use mathlib.Core.Option.{Option, some}
-use lib.Dec.{T, eqb, leb}
+use lib.Dec.{T, eqb}
 use lib.IntN.{ℤ, pos, _+ℤ_, _*ℤ_}
 use lib.Signed.{_≤ℤ_, _<ℤ_}
 use lib.ListN.{length, take}
 use lib.Ieee.{binary32, fits}
 use mir.Syntax.{w16, w32}
 use mir.Val.{Fits, SFits}
+use Rattle.refusal.specs.declared.Refusal.{Refusal}
+use Rattle.refusal.specs.Number.{numberOf}
 use Rattle.refusal.specs.Told.{Told, refused, gives}
 use Rattle.refusal.specs.Claims.{OneToOne}
 use Rattle.readings.specs.declared.Burst.{Burst}
 use Rattle.readings.specs.declared.Burst.the-variants.{Heard, Missed}
-use Rattle.readings.specs.Ranges.{levelInRange}
+use Rattle.readings.specs.Burst.{heard, burstOf}
+use Rattle.readings.specs.Claims.{LevelInRange}
 use Rattle.watch_rules.specs.declared.Track.{Track}
 use Rattle.watch_rules.specs.declared.Watch.{Watch}
+use Rattle.watch_rules.specs.declared.Answer.the-variants as says
 use Rattle.watch_rules.specs.Lists.{mem, timesIn, distinct, every, is, lastN, sum}
-use Rattle.readings.specs.Channels.{channelInRange}
-use Rattle.watch_rules.specs.Limits.{depth, room}
+use Rattle.watch_rules.specs.Limits.{depth}
 use Rattle.watch_rules.specs.Told.{Call, start, newList, move, file, ask, verdict, Given, accepted, levels, wait, stay, moveTo, told, toldHanded}
-use Rattle.watch_rules.specs.Rules.{mean, full, counts, target}
-use Rattle.watch_rules.specs.Plain.{Plain, idle, seen, answers, after}
-use Rattle.watch_rules.specs.Rows.{Row, channels, levelsOf, first, rest, shown}
-use Rattle.watch_rules.specs.Record.{rows, wellFormed, fresh, called, answersFrom, afterFrom}
-use Rattle.watch_rules.specs.Refusals.{Watched, Refuses}
+use Rattle.watch_rules.specs.Rules.{answer, mean, full, counts, target}
+use Rattle.watch_rules.specs.Plain.{Plain, idle, seen, next, answers, after}
+use Rattle.watch_rules.specs.Rows.{channels, levelsOf, first, rest, shown}
+use Rattle.watch_rules.specs.Record.{rows, wellFormed, fresh, called, tested, answersFrom, afterFrom}
+use Rattle.watch_rules.specs.Refusals.{Watched, Refuses, Accepted}
+use Rattle.watch_rules.specs.PlainSteps.{IsIdle, Started, Listed, Moved, Filed}
 
 -- ---- demand 3: what is compared besides the answers
 
@@ -176,16 +180,28 @@ pub record Reachable (w : Watch) : Type 0 where
 abbrev pub WellFormedIsReachable : Type 0
 WellFormedIsReachable = (w : Watch) → (wellFormed w ≡ true) ↔ Reachable w
 
--- "It follows that channels differ and are in range, counts are at most 15, levels are in range": of every record that calls leave
+-- "It follows that channels differ and are in range, counts are at most 15, levels are in range": of every record that calls leave. It has
+-- a channel for each row, at most 7
 pub record Follows (w : Watch) : Type 0 where
-  pub few : length (rows w) ≤ room
-  pub differ : distinct (channels (rows w)) ≡ true
-  pub inRange : every channelInRange (channels (rows w)) ≡ true
-  pub counts : every (λ (t : Track). leb (t .count) depth) (take (w .watched) (w .tracks)) ≡ true
-  pub levels : every (λ (r : Row). every levelInRange (r .levels)) (rows w) ≡ true
+  pub few : length (rows w) ≤ 7
+  pub differ : (c : ℕ) → timesIn c (channels (rows w)) ≤ 1
+  pub inRange : (c : ℕ) → 0 < timesIn c (channels (rows w)) → c ≤ 1087
+  pub counts : (c : ℕ) → countOf c (take (w .watched) (w .tracks)) ≤ 15
+  pub levels : (c : ℕ) (x : ℤ) → List·Memᴰ x (levelsOf c (rows w)) → LevelInRange x
 
 abbrev pub ItFollows : Type 0
 ItFollows = (ks : List Call) → Follows (afterFrom fresh ks)
+
+-- 9: "a record not well formed", before every other refusal: the call and the test hand the record back as it was given. On any other the
+-- test is accepted, and no call is refused with 9
+pub record Unformed (w : Watch) : Type 0 where
+  pub calls : (k : Call) → ¬ (Reachable w) → called w k ≡ record { watch = w; answer = refused 9 }
+  pub tests : ¬ (Reachable w) → tested w ≡ record { watch = w; answer = refused 9 }
+  pub formed : Reachable w → tested w ≡ record { watch = w; answer = gives accepted }
+  pub others : (k : Call) → Reachable w → ¬ (called w k .answer ≡ refused 9)
+
+abbrev pub UnformedRule : Type 0
+UnformedRule = (w : Watch) → Unformed w
 
 -- "An ask, a verdict or a refusal leaves the watch as it was.": of every record, well formed or not
 pub record LeftAsItWas (w : Watch) : Type 0 where
@@ -197,6 +213,35 @@ abbrev pub Unchanged : Type 0
 Unchanged = (w : Watch) → LeftAsItWas w
 
 -- ---- the rules that record and plain watch share, in document 01's words, without the definitions of `Rules`
+
+-- "Each call is given the watch as the one before left it": record and plain watch after one call more, and the answer that it adds
+pub record InTurn (ks : List Call) (k : Call) : Type 0 where
+  pub watch : afterFrom fresh (ks ++ k ∷ []) ≡ called (afterFrom fresh ks) k .watch
+  pub answered : answersFrom fresh (ks ++ k ∷ []) ≡ answersFrom fresh ks ++ called (afterFrom fresh ks) k .answer ∷ []
+  pub plain : after idle (ks ++ k ∷ []) ≡ next (after idle ks) k
+  pub plainAnswered : answers idle (ks ++ k ∷ []) ≡ answers idle ks ++ answer (seen (after idle ks)) k ∷ []
+
+-- "The sequence may be empty.": then nothing is answered, and each is as it began
+pub record SequenceRule : Type 0 where
+  pub empty : (afterFrom fresh [] ≡ fresh) × (answersFrom fresh [] ≡ []) × (after idle [] ≡ idle) × (answers idle [] ≡ [])
+  pub inTurn : (ks : List Call) (k : Call) → InTurn ks k
+
+-- "A call that the refusal rules below refuse, with these arguments in this state, answers that refusal and changes nothing. .. An accepted
+-- call": the steps of the plain watch, whatever it holds
+pub record StepsOf (p : Plain) : Type 0 where
+  pub refusing : (k : Call) (n : ℕ) → Refuses p k n → (answer (seen p) k ≡ refused n) × (next p k ≡ p)
+  pub starts : (c : ℕ) → Accepted p (start c) → Started c (next p (start c))
+  pub lists : (l : List ℕ) → Accepted p (newList l) → Listed p l (next p (newList l))
+  pub moves : (c : ℕ) → Accepted p (move c) → Moved p c (next p (move c))
+  pub files : (c : ℕ) (b : Burst) (level quality : ℤ) → Accepted p (file c b) → burstOf b ≡ gives (heard level quality) → Filed p c level (next p (file c b))
+  -- "Missed: no change. Ask, verdict: no change."
+  pub misses : (c : ℕ) → next p (file c Missed) ≡ p
+  pub asks : (c : ℕ) → next p (ask c) ≡ p
+  pub judges : (h : ℤ) → next p (verdict h) ≡ p
+
+pub record PlainRule : Type 0 where
+  pub begins : IsIdle idle
+  pub steps : (p : Plain) → StepsOf p
 
 -- a list and its end, the last n or all if fewer: as many as the lesser of n and the number of all
 pub record LastOf {A : Type 0} (n : ℕ) (all last : List A) : Type 0 where
@@ -214,7 +259,7 @@ RefusalRule = (ks : List Call) (k : Call) (n : ℕ) → (called (afterFrom fresh
 
 -- "The other calls answer that they are accepted.": where the table has no number
 abbrev pub Accepts : List Call → Call → Type 0
-Accepts ks k = ((n : ℕ) → ¬ (Refuses (after idle ks) k n)) → called (afterFrom fresh ks) k .answer ≡ gives accepted
+Accepts ks k = Accepted (after idle ks) k → called (afterFrom fresh ks) k .answer ≡ gives accepted
 
 pub record AcceptedRule : Type 0 where
   pub starts : (ks : List Call) (c : ℕ) → Accepts ks (start c)
@@ -279,14 +324,29 @@ PartRule =
     (ks : List Call) (s : ℕ) (h : ℤ) → after idle ks .serving ≡ some s → pos 0 ≤ℤ h → h ≤ℤ pos 6000
     → (c : ℕ) → TakesPart (ofRecord (afterFrom fresh ks)) s h c
 
--- the words for lists in which the plain watch and the record's tests are written
+-- the words for lists in which the plain watch, the record's tests and these claims are written: how often a channel is in a list, the sum
+-- of a list, and the others by the first
 pub record WordsRule : Type 0 where
+  pub timesOne : (c : ℕ) → timesIn c (c ∷ []) ≡ 1
+  pub timesOther : (c d : ℕ) → ¬ (d ≡ c) → timesIn c (d ∷ []) ≡ 0
+  pub timesJoined : (c : ℕ) (l m : List ℕ) → timesIn c (l ++ m) ≡ timesIn c l + timesIn c m
+  pub sumOne : (x : ℤ) → sum (x ∷ []) ≡ x
+  pub sumJoined : (l m : List ℤ) → sum (l ++ m) ≡ sum l +ℤ sum m
   pub among : (c : ℕ) (l : List ℕ) → (mem c l ≡ true) ↔ (0 < timesIn c l)
   pub apart : (l : List ℕ) → (distinct l ≡ true) ↔ ((c : ℕ) → timesIn c l ≤ 1)
   pub all : (test : ℕ → Bool) (l : List ℕ) → (every test l ≡ true) ↔ ((c : ℕ) → 0 < timesIn c l → test c ≡ true)
   pub same : (o : Option ℕ) (c : ℕ) → (is o c ≡ true) ↔ (o ≡ some c)
 
 -- ---- answers
+
+-- an answer tells what its name says, and a refusal its number
+pub record AnswersTold : Type 0 where
+  pub accepts : told says.Accepted ≡ gives accepted
+  pub asked : (count : ℕ) (mean : ℤ) → told (says.Levels count mean) ≡ gives (levels count mean)
+  pub waits : told says.Wait ≡ gives wait
+  pub stays : told says.Stay ≡ gives stay
+  pub moves : (c : ℕ) → told (says.MoveTo c) ≡ gives (moveTo c)
+  pub number : (why : Refusal) → told (says.Refused why) ≡ refused (numberOf why)
 
 -- what is told of an answer fixes its case and values, and so does what is told of what a call hands back
 pub record AnswersDiffer : Type 0 where

@@ -45,3 +45,7 @@ pub data Refuses (p : Plain) : Call → ℕ → Type 0 where
   verdictIdle : (h : ℤ) → pos 0 ≤ℤ h → h ≤ℤ pos 6000 → p .serving ≡ none → Refuses p (verdict h) 6
   -- 1: "a level or quality, as a float .., is outside its range", by the readings' rule
   burstOutOfRange : (c : ℕ) (b : Burst) → Watched p c → burstOf b ≡ refused 1 → Refuses p (file c b) 1
+
+-- an accepted call: no row of the table fits it
+abbrev pub Accepted : Plain → Call → Type 0
+Accepted p k = (n : ℕ) → ¬ (Refuses p k n)

@@ -1,6 +1,6 @@
 // The neighbour watch: its record and what its calls answer. Document 01, sections The watch and The plain watch.
 // The rules, the plain watch and demand 3 stand in specs/; the calls stand in the crate `watch`.
-ghost use Rattle.watch_rules.specs.Claims.{Demand3, WellFormedIsReachable, ItFollows, Unchanged, LevelsRule, RefusalRule, AcceptedRule, AskRule, VerdictRule, PartRule, WordsRule, AnswersDiffer};
+ghost use Rattle.watch_rules.specs.Claims.{Demand3, WellFormedIsReachable, ItFollows, Unchanged, UnformedRule, SequenceRule, PlainRule, LevelsRule, RefusalRule, AcceptedRule, AskRule, VerdictRule, PartRule, WordsRule, AnswersTold, AnswersDiffer};
 use refusal::Refusal;
 
 // How many levels of a channel make a mean and a sum: older ones go.
@@ -55,6 +55,9 @@ pub fn claimed()
     ensures formed { λ _. ⌜ WellFormedIsReachable ⌝ }
     ensures follows { λ _. ⌜ ItFollows ⌝ }
     ensures unchanged { λ _. ⌜ Unchanged ⌝ }
+    ensures unformed { λ _. ⌜ UnformedRule ⌝ }
+    ensures sequence { λ _. ⌜ SequenceRule ⌝ }
+    ensures plain { λ _. ⌜ PlainRule ⌝ }
     ensures kept { λ _. ⌜ LevelsRule ⌝ }
     ensures refuses { λ _. ⌜ RefusalRule ⌝ }
     ensures accepts { λ _. ⌜ AcceptedRule ⌝ }
@@ -62,5 +65,6 @@ pub fn claimed()
     ensures verdict { λ _. ⌜ VerdictRule ⌝ }
     ensures part { λ _. ⌜ PartRule ⌝ }
     ensures words { λ _. ⌜ WordsRule ⌝ }
-    ensures told { λ _. ⌜ AnswersDiffer ⌝ }
+    ensures told { λ _. ⌜ AnswersTold ⌝ }
+    ensures differ { λ _. ⌜ AnswersDiffer ⌝ }
 {}

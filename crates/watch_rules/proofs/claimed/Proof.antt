@@ -3,10 +3,13 @@ use Rattle.watch_rules.proofs.Words.{wordsRule}
 use Rattle.watch_rules.proofs.Rules.{levelsRule, refusalRule, acceptedRule}
 use Rattle.watch_rules.proofs.Demand3.{demand3}
 use Rattle.watch_rules.proofs.Reach.{wellFormedIsReachable}
-use Rattle.watch_rules.proofs.Unchanged.{itFollows, unchanged}
+use Rattle.watch_rules.proofs.Unchanged.{unchanged}
+use Rattle.watch_rules.proofs.Follows.{itFollows, unformedRule}
+use Rattle.watch_rules.proofs.Sequence.{sequenceRule}
+use Rattle.watch_rules.proofs.PlainSteps.{plainRule}
 use Rattle.watch_rules.proofs.Verdict.{verdictRule, partRule}
 use Rattle.watch_rules.proofs.Mean.{askRule}
-use Rattle.watch_rules.proofs.Told.{answersDiffer}
+use Rattle.watch_rules.proofs.Told.{answersTold, answersDiffer}
 use Rattle.watch_rules.proofs.claimed.Statement.{statement}
 use Rattle.watch_rules.proofs.claimed.Tie as tie
 
@@ -19,7 +22,16 @@ returns c = (
       itFollows,
       (
         unchanged,
-        (levelsRule, (refusalRule, (acceptedRule, (askRule, (verdictRule, (partRule, (wordsRule, answersDiffer))))))),
+        (
+          unformedRule,
+          (
+            sequenceRule,
+            (
+              plainRule,
+              (levelsRule, (refusalRule, (acceptedRule, (askRule, (verdictRule, (partRule, (wordsRule, (answersTold, answersDiffer)))))))),
+            ),
+          ),
+        ),
       ),
     ),
   ),

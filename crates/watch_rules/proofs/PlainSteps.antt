@@ -1,0 +1,117 @@
+-- The steps of the plain watch in document 01's words. The table of refusals decides whether a call changes anything; what an accepted one
+-- leaves is its definition, whose tests are those words, decided.
+use Prim.Native.Nat.{ℕ}
+use mathlib.Core.Path.{_≡_, refl, sym, ap, _∙_, subst}
+use mathlib.Core.Logic.{_⊎_, inl, inr}
+use mathlib.Core.Bool.{Bool, true, not, cond, _&&_, _||_, or-true, and-false}
+use mathlib.Core.List.{List, []}
+use mathlib.Core.Option.{Option, none, some}
+use lib.Dec.{eqb}
+use lib.IntN.{ℤ}
+use borrow.Author.Tests.{eqb-false, eq-eqb, ne-eqb}
+use Rattle.refusal.specs.declared.Refusal.{Refusal}
+use Rattle.refusal.specs.Told.{refused, gives}
+use Rattle.refusal.proofs.OneToOne.{gives-refused}
+use Rattle.readings.specs.declared.Burst.the-variants.{Missed}
+use Rattle.readings.specs.Burst.{heard}
+use Rattle.watch_rules.specs.Lists.{mem, is}
+use Rattle.watch_rules.specs.Told.{Call, start, newList, move, file, ask, verdict}
+use Rattle.watch_rules.specs.Rules.{refusal, answer, unlessRefused}
+use Rattle.watch_rules.specs.Plain.{Plain, underWatch, seen, afterStart, afterNewList, afterMove, afterFile, change, next}
+use Rattle.watch_rules.specs.Refusals.{Accepted}
+use Rattle.watch_rules.specs.PlainSteps.{Started, Listed, Moved, Filed}
+use Rattle.watch_rules.specs.Claims.{StepsOf, PlainRule}
+use Rattle.watch_rules.proofs.Laws.{byCase, and-left, and-right, and-both, not-is, or-true-right}
+use Rattle.watch_rules.proofs.Words.{mem-times, times-mem, is-some, some-is}
+use Rattle.watch_rules.proofs.Calls.{granted-answer}
+use Rattle.watch_rules.proofs.Refusals.{yes-watched, no-watched, from-row, no-refusal}
+
+-- ---- what an accepted call leaves
+
+started : (c : ℕ) → Started c (afterStart c)
+started c = record { serving = refl; neighbours = λ d. refl; levels = λ d. refl }
+
+module _ (p : Plain) where
+  listed : (l : List ℕ) → Listed p l (afterNewList p l)
+  listed l =
+      record {
+        serving = refl;
+        neighbours = λ c. (mem-times c l, times-mem c l);
+        kept = λ c w v. ap (chosen c) (and-both (yes-watched p c w) (yes-watched (afterNewList p l) c v));
+        others = λ c n. ap (λ (b : Bool). chosen c (b && (is (p .serving) c || mem c l))) (no-watched p c n);
+        dropped =
+            λ c n.
+            ap (λ (b : Bool). chosen c (underWatch p c && b)) (no-watched (afterNewList p l) c n)
+            ∙ ap (chosen c) (and-false (underWatch p c));
+      }
+    where
+      chosen : ℕ → Bool → List ℤ
+      chosen c b = cond b (p .levels c) []
+
+  moved : (c : ℕ) → Moved p c (afterMove p c)
+  moved c =
+      record {
+        serving = refl;
+        neighbours =
+            λ d. (
+              (λ e. byCase (is (p .serving) d)
+                  (λ s. inl (is-some (p .serving) d s))
+                  (λ s. (let m = or-true-right (is (p .serving) d) (p .neighbour d && not (eqb c d)) e s in
+                  inr (
+                    and-left (p .neighbour d) (not (eqb c d)) m,
+                    (λ z. eqb-false c d (not-is (eqb c d) (and-right (p .neighbour d) (not (eqb c d)) m)) (sym z)),
+                  )))),
+              back d,
+            );
+        levels = λ d. refl;
+      }
+    where
+      back : (d : ℕ) → (p .serving ≡ some d) ⊎ ((p .neighbour d ≡ true) × (¬ (d ≡ c))) → afterMove p c .neighbour d ≡ true
+      back d (inl s) = ap (λ (b : Bool). b || (p .neighbour d && not (eqb c d))) (some-is (p .serving) d s)
+      back d (inr m) =
+          ap (λ (b : Bool). is (p .serving) d || b) (and-both (m .0) (ap not (ne-eqb c d (λ z. m .1 (sym z)))))
+          ∙ or-true (is (p .serving) d)
+
+  filed : (c : ℕ) (level quality : ℤ) → Filed p c level (afterFile p c (gives (heard level quality)))
+  filed c level quality =
+      record {
+        serving = refl;
+        neighbours = λ d. refl;
+        newest = rw (eq-eqb c c refl);
+        others = λ d n. rw (ne-eqb c d (λ z. n (sym z)));
+      }
+
+  -- ---- the steps
+
+  accepted-next : (k : Call) → Accepted p k → change p k ≡ next p k
+  accepted-next k a = sym (ap (λ (o : Option Refusal). unlessRefused o p (change p k)) (no-refusal p k a))
+
+  refused-next : (k : Call) (n : ℕ) → answer (seen p) k ≡ refused n → next p k ≡ p
+  refused-next k n e = go (refusal (seen p) k) refl
+    where
+      go : (o : Option Refusal) → refusal (seen p) k ≡ o → next p k ≡ p
+      go none q = absurd (gives-refused (sym (granted-answer (seen p) k q) ∙ e))
+      go (some r) q = ap (λ (o : Option Refusal). unlessRefused o p (change p k)) q
+
+  -- a call that changes nothing where it is accepted
+  same-next : (o : Option Refusal) → unlessRefused o p p ≡ p
+  same-next none = refl
+  same-next (some r) = refl
+
+  steps : StepsOf p
+  steps =
+      record {
+        refusing = λ k n row. (from-row p row, refused-next k n (from-row p row));
+        starts = λ c a. subst (Started c) (accepted-next (start c) a) (started c);
+        lists = λ l a. subst (Listed p l) (accepted-next (newList l) a) (listed l);
+        moves = λ c a. subst (Moved p c) (accepted-next (move c) a) (moved c);
+        files =
+            λ c b level quality a e.
+            subst (Filed p c level) (ap (afterFile p c) (sym e) ∙ accepted-next (file c b) a) (filed c level quality);
+        misses = λ c. same-next (refusal (seen p) (file c Missed));
+        asks = λ c. same-next (refusal (seen p) (ask c));
+        judges = λ h. same-next (refusal (seen p) (verdict h));
+      }
+
+pub plainRule : PlainRule
+plainRule = record { begins = record { serving = refl; neighbours = λ c. refl; levels = λ c. refl }; steps = steps }
