@@ -40,7 +40,8 @@ nearPartRule s m = near-rule (heard s) s m
 -- ---- bytes of channels not heard
 
 -- outcomes that agree on a list give the same first open channel, and the same answer for it
-answer-same : (o p : ℕ → ℕ) (order near cs : List ℕ) → All (λ c. o c ≡ p c) cs → answerOf o order near (firstOpen o cs) ≡ answerOf p order near (firstOpen p cs)
+answer-same : (o p : ℕ → ℕ) (order near cs : List ℕ) → All (λ c. o c ≡ p c) cs
+    → answerOf o order near (firstOpen o cs) ≡ answerOf p order near (firstOpen p cs)
 unfolding answerOf firstOpen
 answer-same o p order near [] a = refl
 answer-same o p order near (c ∷ cs) a = ⊎-elim
@@ -149,7 +150,8 @@ module _ (s : Sweep) (m : ℤ) (o : List ℕ) (a : Chosen) (A : Accepted s m o a
       (λ (r : Closed). absurd (not (length near) (r .0)))
       (λ (r : Open).
       let q = is (r .0) (suc (r .1)) (r .3 .opens) (r .2) in
-      (subst (λ (x : ℕ). Named s m o x n) (q .0) (subst (Named s m o (r .0)) (q .1) (named (r .0) (r .1) (r .3) (r .4))), ap (outcomeAt o) (sym (q .0)) ∙ q .2))
+      let first = named (r .0) (r .1) (r .3) (r .4) in
+      (subst (λ (x : ℕ). Named s m o x n) (q .0) (subst (Named s m o (r .0)) (q .1) first), ap (outcomeAt o) (sym (q .0)) ∙ q .2))
       answer-is
 
   -- and the first open channel is named

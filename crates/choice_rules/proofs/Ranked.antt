@@ -9,24 +9,19 @@ use native.Mathlib.Nat.{eq-or-lt-of-le, lt-irrefl}
 use native.Mathlib.Omega.{arith}
 use lib.ListN.{getD}
 use lib.IntN.{ℤ, _-ℤ_}
-use lib.Signed.{leZ, ltZ, _<ℤ_}
-use lib.Dec.{T, ltb}
+use lib.Signed.{leZ, ltZ}
+use lib.Dec.{ltb}
 use borrow.Author.Tests.{lt-ltb, ltb-true, ltb-false}
 use Rattle.sweep_rules.specs.Map.{channels}
 use Rattle.sweep_rules.specs.Record.{levelAt}
 use Rattle.sweep_rules.specs.declared.Sweep.{Sweep}
 use Rattle.sweep_rules.proofs.Tests.{which, clash}
-use Rattle.sweep_rules.proofs.Levels.{le-fact, fact-le}
 use Rattle.choice_rules.specs.Order.{from, beginning, comesBefore, channelsThat, searchOrder, atMostBelow, nearOf, nearPart}
 use Rattle.choice_rules.specs.Code.{All}
 use Rattle.choice_rules.specs.Claims.{Passes, Before, OrderRule, Strongest, WithinMargin, NearRule}
+use Rattle.choice_rules.proofs.Whole.{le-fact, fact-le, lt-fact}
 use Rattle.choice_rules.proofs.Whole.{above, below, le-parts, parts-le, lt-parts, parts-lt, not-lt-parts, parts-not-lt, parts-same, sub-parts}
 use Rattle.choice_rules.proofs.Lists.{all-map, all-mem, all-keep, mem-keep, all-from, mem-from, apart-from, begin-prefix, begin-passes, all-sort, mem-sort, Sorted, sorted-at, Ordering, sort-sorted}
-
--- ---- a test as a fact
-
-lt-fact : {x y : ℤ} → ltZ x y ≡ true → x <ℤ y
-lt-fact e = record { lt = subst T (sym e) tt }
 
 -- ---- the two keys
 

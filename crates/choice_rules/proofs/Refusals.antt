@@ -16,11 +16,11 @@ use Rattle.sweep_rules.specs.Record.{everyChannel, finished, wellFormed}
 use Rattle.sweep_rules.specs.Claims.{Finished}
 use Rattle.sweep_rules.specs.declared.Sweep.{Sweep}
 use Rattle.sweep_rules.proofs.Tests.{which, both, left, right, each-all, all-each}
-use Rattle.sweep_rules.proofs.Levels.{le-fact, fact-le}
 use Rattle.sweep_rules.proofs.ReadCalls.{fails, says-no, number}
 use Rattle.sweep_rules.proofs.Claims.{wellFormedRule, finishedRule}
 use Rattle.choice_rules.specs.Choose.{outcomeAt, outcomesFine, highestOutcome, marginInRange, Chosen, chosen, choosing}
 use Rattle.choice_rules.specs.Claims.{OutcomesInRange, MarginInRange, Refuses, unformed, outcomesFaulty, marginOutOfRange, unfinished, RefusalRule}
+use Rattle.choice_rules.proofs.Whole.{le-fact, fact-le}
 use Rattle.choice_rules.proofs.Endings.{says-9, says-8, says-7, says-4, says-chosen}
 
 -- ---- each test from its words, and the words from the test
@@ -69,9 +69,11 @@ module _ (s : Sweep) (m : ℤ) (o : List ℕ) where
       (λ (f : outcomesFine o ≡ true). ⊎-elim
       (λ (r : marginInRange m ≡ true). ⊎-elim
       (λ (d : finished s ≡ true). absurd (gives-refused (says-chosen s m o w f r d ∙ e)))
-      (λ (d : finished s ≡ false). row-is e (says-4 s m o w f r d) (unfinished (wellFormedRule s .0 w) (fine-in o f) (margin-in m r) (says-no (finished s) (in-finished s) d)))
+      (λ (d : finished s ≡ false).
+      row-is e (says-4 s m o w f r d) (unfinished (wellFormedRule s .0 w) (fine-in o f) (margin-in m r) (says-no (finished s) (in-finished s) d)))
       (which (finished s)))
-      (λ (r : marginInRange m ≡ false). row-is e (says-7 s m o w f r) (marginOutOfRange (wellFormedRule s .0 w) (fine-in o f) (says-no (marginInRange m) (in-margin m) r)))
+      (λ (r : marginInRange m ≡ false).
+      row-is e (says-7 s m o w f r) (marginOutOfRange (wellFormedRule s .0 w) (fine-in o f) (says-no (marginInRange m) (in-margin m) r)))
       (which (marginInRange m)))
       (λ (f : outcomesFine o ≡ false). row-is e (says-8 s m o w f) (outcomesFaulty (wellFormedRule s .0 w) (says-no (outcomesFine o) (in-fine o) f)))
       (which (outcomesFine o)))

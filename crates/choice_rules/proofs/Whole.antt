@@ -1,13 +1,14 @@
 -- Whole numbers with a sign, for arithmetic by `omega`: a number is what it has above 0 less what it has below, and orders and differences
 -- are those of these two parts.
 use Prim.Native.Nat.{ℕ, zero, suc, _+_, _-_, _≤_, _<_}
-use mathlib.Core.Path.{_≡_, refl, sym, ap}
+use mathlib.Core.Path.{_≡_, refl, sym, ap, subst}
 use mathlib.Core.Bool.{true, false, false≢true}
 use mathlib.Core.Logic.{_⊎_, inl, inr, ⊎-elim}
 use native.Mathlib.Nat.{not-suc-le-zero}
 use native.Mathlib.Omega.{arith}
 use lib.IntN.{ℤ, pos, negsuc, natAbs, subℕ, _-ℤ_}
-use lib.Signed.{leZ, ltZ, nonNeg}
+use lib.Signed.{leZ, ltZ, nonNeg, _≤ℤ_, _<ℤ_}
+use lib.Ieee.Bits.{is-true}
 use lib.Dec.{T, ltb}
 use borrow.Author.Tests.{leb-true, ltb-true, ltb-false, le-leb, lt-ltb, le-ltb}
 use Rattle.sweep_rules.proofs.Tests.{which}
@@ -32,6 +33,16 @@ size-parts (pos n) = omega arith
 size-parts (negsuc n) = omega arith
 
 -- ---- orders
+
+-- as facts and as tests
+pub le-fact : {x y : ℤ} → leZ x y ≡ true → x ≤ℤ y
+le-fact e = record { le = subst T (sym e) tt }
+
+pub fact-le : {x y : ℤ} → x ≤ℤ y → leZ x y ≡ true
+fact-le {x} {y} h = is-true (leZ x y) (h .le)
+
+pub lt-fact : {x y : ℤ} → ltZ x y ≡ true → x <ℤ y
+lt-fact e = record { lt = subst T (sym e) tt }
 
 pub le-parts : (x y : ℤ) → leZ x y ≡ true → above x + below y ≤ above y + below x
 unfolding above below

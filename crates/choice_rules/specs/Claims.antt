@@ -11,6 +11,7 @@ use Rattle.refusal.specs.declared.Refusal.{Refusal}
 use Rattle.refusal.specs.Number.{numberOf}
 use Rattle.refusal.specs.Told.{refused, gives}
 use Rattle.refusal.specs.Claims.{OneToOne}
+use Rattle.readings.specs.Claims.{Between}
 use Rattle.sweep_rules.specs.Record.{heard, levelAt}
 use Rattle.sweep_rules.specs.Claims.{WellFormed, Finished}
 use Rattle.sweep_rules.specs.declared.Sweep.{Sweep}
@@ -27,9 +28,8 @@ pub record OutcomesInRange (o : List ℕ) : Type 0 where
   pub bytes : (c : ℕ) → c < 1088 → getD o c 0 ≤ 5
 
 -- "a margin of 0 to 6,000 hundredths"
-pub record MarginInRange (m : ℤ) : Type 0 where
-  pub lowest : pos 0 ≤ℤ m
-  pub highest : m ≤ℤ pos 6000
+abbrev pub MarginInRange : ℤ → Type 0
+MarginInRange = Between (pos 0) (pos 6000)
 
 -- the table: a choice is refused with this number. "Several at once: 9, 8, 7, .. 4, ..": a later number only where no earlier one is given
 pub data Refuses (s : Sweep) (m : ℤ) (o : List ℕ) : ℕ → Type 0 where

@@ -1,11 +1,12 @@
 -- Every list of filings from a fresh record. A list grows at its end; by the rule of one filing an accepted one is one bit more in each map that it
 -- marks, and changes no level but its channel's, so the record shows exactly the accepted filings.
-use Prim.Native.Nat.{ℕ, zero, suc, _+_, _/_, _%_, _≤_, _<_}
+use Prim.Native.Nat.{ℕ, zero, suc, _/_, _%_, _≤_, _<_}
 use mathlib.Core.Path.{_≡_, refl, sym, ap, _∙_, subst}
 use mathlib.Core.Bool.{true, false}
 use mathlib.Core.Logic.{_⊎_, inl, inr, ⊎-elim, ⊎-map, _↔_}
-use mathlib.Core.List.{List, [], _∷_, _++_, map, map-append, append-nil, append-assoc, List·Memᴰ, List·Memᴰ·head}
-use mathlib.Core.List.{List·Memᴰ·tail, List·Memᴰ·not-nil, List·Memᴰ·cases-cons, Memᴰ·append-left, Memᴰ·append-right, List·Memᴰ·append-cases, List·Memᴰ·eq-of-singleton}
+use mathlib.Core.List.{List, [], _∷_, _++_, map, map-append, append-nil, append-assoc}
+use mathlib.Core.List.{List·Memᴰ, List·Memᴰ·head, List·Memᴰ·tail, List·Memᴰ·not-nil, List·Memᴰ·cases-cons}
+use mathlib.Core.List.{Memᴰ·append-left, Memᴰ·append-right, List·Memᴰ·append-cases, List·Memᴰ·eq-of-singleton}
 use native.Mathlib.Omega.{arith}
 use lib.ListN.{length, getD, replicate, length-append, length-replicate}
 use lib.IntN.{ℤ, pos}
@@ -22,7 +23,7 @@ use Rattle.readings.proofs.Bursts.{converted-in}
 use Rattle.sweep_rules.specs.Map.{channels, bitAt, isSet, setBits}
 use Rattle.sweep_rules.specs.Record.{visited, heard, levelAt, freshSweep}
 use Rattle.sweep_rules.specs.Filing.{filing, leaves}
-use Rattle.sweep_rules.specs.Claims.{Typed, WellFormed, Refuses, Accepts, Filed, Filing, after, acceptedOf, heardOf, For, FiledRecord, FiledFromFresh}
+use Rattle.sweep_rules.specs.Claims.{Typed, WellFormed, Accepts, Filed, Filing, after, acceptedOf, heardOf, For, FiledFromFresh}
 use Rattle.sweep_rules.specs.declared.Sweep.{Sweep}
 use Rattle.sweep_rules.proofs.Tests.{same-or-not, fails, clash, same-test, many-none, many-more, many-same}
 use Rattle.sweep_rules.proofs.ReadRecord.{freshRule}

@@ -1,6 +1,6 @@
--- Order as a fact and as its test. A level of 0: what the test says of the whole number, and of the bits of an i32. The levels of a word, by its halves.
+-- A level of 0: what the test says of the whole number, and of the bits of an i32. The levels of a word, by its halves.
 use Prim.Native.Nat.{ℕ, _+_, _/_, _%_}
-use mathlib.Core.Path.{_≡_, sym, ap, ap₂, _∙_, subst}
+use mathlib.Core.Path.{_≡_, sym, ap, ap₂, _∙_}
 use mathlib.Core.Bool.{Bool, true, false, _&&_, _||_, or-false}
 use mathlib.Core.List.{List}
 use native.Mathlib.Nat.{not-suc-le-zero, add-assoc, div-eq-of-lt}
@@ -8,9 +8,7 @@ use lib.ListN.{getD}
 use native.Mathlib.Numerals.{add-one}
 use native.Mathlib.Omega.{arith}
 use lib.IntN.{ℤ, pos, negsuc, natAbs}
-use lib.Signed.{leZ, _≤ℤ_}
-use lib.Ieee.Bits.{is-true}
-use lib.Dec.{T, eqb}
+use lib.Dec.{eqb}
 use lib.Pow.{pow-pos}
 use Rattle.readings.specs.Ranges.{levelInRange}
 use borrow.Author.Tests.{eqb-true}
@@ -22,16 +20,6 @@ use Rattle.sweep_rules.specs.Record.{implies, isZero}
 use Rattle.sweep_rules.specs.Code.{levelFine, levelsFine, wordFine}
 use Rattle.sweep_rules.proofs.Tests.{both, right, same-test, each-all, all-split, all-same}
 use Rattle.sweep_rules.proofs.Words.{bit-low, bit-high}
-
--- ---- the order of whole numbers, as a fact and as its test
-
-pub le-fact : {x y : ℤ} → leZ x y ≡ true → x ≤ℤ y
-le-fact e = record { le = subst T (sym e) tt }
-
-pub fact-le : {x y : ℤ} → x ≤ℤ y → leZ x y ≡ true
-fact-le {x} {y} h = is-true (leZ x y) (h .le)
-
--- ---- a level of 0
 
 abs-zero : (z : ℤ) → natAbs z ≡ 0 → z ≡ pos 0
 abs-zero (pos n) e = ap pos e

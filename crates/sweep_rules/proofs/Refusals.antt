@@ -1,10 +1,9 @@
 -- The refusals in document 01's words. A test that fails names the row of the table, and a row decides the tests.
-use Prim.Native.Nat.{ℕ, _≤_, _<_}
+use Prim.Native.Nat.{ℕ, _≤_}
 use mathlib.Core.Path.{_≡_, refl, sym, ap, _∙_, subst}
 use mathlib.Core.Bool.{Bool, true, false, _&&_}
-use mathlib.Core.Logic.{⊎-elim}
+use mathlib.Core.Logic.{_⊎_, inl, inr, ⊎-elim}
 use native.Mathlib.Omega.{arith}
-use lib.IntN.{ℤ}
 use lib.Dec.{leb}
 use borrow.Author.Tests.{leb-false}
 use Rattle.refusal.specs.Told.{Told, refused, gives}
@@ -14,8 +13,9 @@ use Rattle.readings.specs.declared.Burst.the-variants.{Heard, Missed}
 use Rattle.readings.specs.declared.Reading.{Reading}
 use Rattle.readings.specs.Hundredths.{levelOf, qualityOf}
 use Rattle.readings.specs.Burst as readings
-use Rattle.readings.specs.Burst.{BurstResult, bothOf, burstOf}
-use Rattle.readings.proofs.Bursts.{burst-1}
+use Rattle.readings.specs.Burst.{BurstResult, burstOf}
+use Rattle.readings.proofs.Conversion.{conversionRule}
+use Rattle.readings.proofs.Bursts.{burstRule}
 use Rattle.sweep_rules.specs.Record.{swept, visited, wellFormed}
 use Rattle.sweep_rules.specs.Filing.{withBurst, filing, answers, checking}
 use Rattle.sweep_rules.specs.Next.{nextOf, nextTold}
@@ -27,20 +27,8 @@ use Rattle.sweep_rules.proofs.Formed.{swept-ends, ends-swept, wellForme
 use Rattle.sweep_rules.proofs.Filed.{file-9, file-2, file-3, file-in, burst-refused}
 use Rattle.sweep_rules.proofs.ReadCalls.{number, fails, says-no, only-9, next-is, counts-is, test-is}
 
--- ---- a burst by its two floats
-
 same-number : {A B : Type 0} {a b : ℕ} → _≡_ {A = Told A} (refused a) (refused b) → _≡_ {A = Told B} (refused a) (refused b)
 same-number e = ap refused (number refl e)
-
--- a heard burst whose quality is refused is refused, with 1 as well where its level is
-quality-refused : (r : Reading) → qualityOf (r .quality) ≡ refused 1 → burstOf (Heard r) ≡ refused 1
-quality-refused r e = by (levelOf (r .level)) refl
-  where
-    by : (l : Told ℤ) → levelOf (r .level) ≡ l → burstOf (Heard r) ≡ refused 1
-    by (gives h) q = ap (λ (l : Told ℤ). bothOf l (qualityOf (r .quality))) q ∙ ap (bothOf (gives h)) e
-    by (refused m) q =
-        let refuses : burstOf (Heard r) ≡ refused m = ap (λ (l : Told ℤ). bothOf l (qualityOf (r .quality))) q in
-        refuses ∙ ap refused (burst-1 (Heard r) m refuses)
 
 -- ---- a filing
 
@@ -55,14 +43,15 @@ module _ (s : Sweep) (c : ℕ) (b : Burst) where
   by-burst (gives (readings.heard level quality)) n e = absurd (gives-refused e)
   by-burst (refused m) n e = same-number e
 
-  burst-row : WellFormed s → 2 ≤ c → c ≤ 1086 → visited s c ≡ false → (x : Burst) → b ≡ x → burstOf x ≡ refused 1 → Refuses s c b 1
-  burst-row w low high v (Heard r) is e = by (levelOf (r .level)) (qualityOf (r .quality)) refl refl e
-    where
-      by : (l q : Told ℤ) → levelOf (r .level) ≡ l → qualityOf (r .quality) ≡ q → bothOf l q ≡ refused 1 → Refuses s c b 1
-      by (gives l) (gives q) d k f = absurd (gives-refused f)
-      by (gives l) (refused n) d k f = qualityOutside r w low high v is (k ∙ same-number f)
-      by (refused n) q d k f = levelOutside r w low high v is (d ∙ same-number f)
-  burst-row w low high v Missed is e = absurd (gives-refused e)
+  -- by the readings' rules: one of its two floats is outside its range
+  burst-row : WellFormed s → 2 ≤ c → c ≤ 1086 → visited s c ≡ false → (x : Burst) → b ≡ x → (n : ℕ) → burstOf x ≡ refused n → Refuses s c b n
+  burst-row w low high v (Heard r) is n e =
+      let q = burstRule .either r n .0 e in
+      subst (Refuses s c b) (sym (q .0)) (⊎-elim
+      (λ (l : levelOf (r .level) ≡ refused 1). levelOutside r w low high v is (conversionRule .level (r .level) .refuses 1 .0 l .1))
+      (λ (l : qualityOf (r .quality) ≡ refused 1). qualityOutside r w low high v is (conversionRule .quality (r .quality) .refuses 1 .0 l .1))
+      (q .1))
+  burst-row w low high v Missed is n e = absurd (gives-refused e)
 
   pub to-row : (n : ℕ) → filing s c b ≡ refused n → Refuses s c b n
   to-row n e =
@@ -72,10 +61,7 @@ module _ (s : Sweep) (c : ℕ) (b : Burst) where
       let h = swept-ends c i in
       ⊎-elim
       (λ (v : visited s c ≡ true). row-is e (file-3 s c b w i v) (visitedBefore (wellFormedRule s .0 w) (h .0) (h .1) v))
-      (λ (v : visited s c ≡ false).
-      let r = by-burst (burstOf b) n (sym (file-in s c b w i v) ∙ e) in
-      let one = burst-1 b n r in
-      subst (Refuses s c b) (sym one) (burst-row (wellFormedRule s .0 w) (h .0) (h .1) v b refl (r ∙ ap refused one)))
+      (λ (v : visited s c ≡ false). burst-row (wellFormedRule s .0 w) (h .0) (h .1) v b refl n (by-burst (burstOf b) n (sym (file-in s c b w i v) ∙ e)))
       (which (visited s c)))
       (λ (i : swept c ≡ false). row-is e (file-2 s c b w i) (outside w i))
       (which (swept c)))
@@ -93,16 +79,18 @@ module _ (s : Sweep) (c : ℕ) (b : Burst) where
   not-swept n = fails (swept c) (swept-ends c) n
 
   -- the tests passed, a filing is what the burst makes of the record
-  in-burst : WellFormed s → 2 ≤ c → c ≤ 1086 → visited s c ≡ false → burstOf b ≡ refused 1 → filing s c b ≡ refused 1
-  in-burst w x y v r = file-in s c b (wellFormedRule s .1 w) (ends-swept c (x, y)) v ∙ burst-refused s c (burstOf b) 1 r
+  in-burst : (r : Reading) → WellFormed s → 2 ≤ c → c ≤ 1086 → visited s c ≡ false → b ≡ Heard r
+      → (levelOf (r .level) ≡ refused 1) ⊎ (qualityOf (r .quality) ≡ refused 1) → filing s c b ≡ refused 1
+  in-burst r w x y v is o =
+      file-in s c b (wellFormedRule s .1 w) (ends-swept c (x, y)) v ∙ burst-refused s c (burstOf b) 1 (ap burstOf is ∙ burstRule .either r 1 .1 (refl, o))
 
   pub from-row : {n : ℕ} → Refuses s c b n → filing s c b ≡ refused n
   from-row (unformed w) = file-9 s c b (fails (wellFormed s) (wellFormedRule s .0) w)
   from-row (channelBelow w l) = file-2 s c b (wellFormedRule s .1 w) (not-swept (λ (h : (2 ≤ c) × (c ≤ 1086)). let g = h .0 in omega arith))
   from-row (channelAbove w l) = file-2 s c b (wellFormedRule s .1 w) (not-swept (λ (h : (2 ≤ c) × (c ≤ 1086)). let g = h .1 in omega arith))
   from-row (visitedBefore w x y v) = file-3 s c b (wellFormedRule s .1 w) (ends-swept c (x, y)) v
-  from-row (levelOutside r w x y v is e) = in-burst w x y v (ap burstOf is ∙ ap (λ (l : Told ℤ). bothOf l (qualityOf (r .quality))) e)
-  from-row (qualityOutside r w x y v is e) = in-burst w x y v (ap burstOf is ∙ quality-refused r e)
+  from-row (levelOutside r w x y v is o) = in-burst r w x y v is (inl (conversionRule .level (r .level) .refuses 1 .1 (refl, o)))
+  from-row (qualityOutside r w x y v is o) = in-burst r w x y v is (inr (conversionRule .quality (r .quality) .refuses 1 .1 (refl, o)))
 
 answer-refused : (t : Told Sweep) (n : ℕ) → answers t ≡ refused n → t ≡ refused n
 answer-refused (gives u) n e = absurd (gives-refused e)

@@ -5,7 +5,7 @@ use mathlib.Core.Bool.{Bool, true, false, _||_, cond}
 use mathlib.Core.Logic.{_↔_, _⊎_}
 use mathlib.Core.List.{List, [], _∷_, _++_, map, List·Memᴰ}
 use lib.ListN.{length, getD, replicate}
-use lib.IntN.{pos}
+use lib.IntN.{pos, negℤ}
 use lib.Count.{ones}
 use lib.Dec.{eqb}
 use Rattle.refusal.specs.declared.Refusal.{Refusal}
@@ -15,8 +15,8 @@ use Rattle.refusal.specs.Claims.{OneToOne}
 use Rattle.readings.specs.declared.Burst.{Burst}
 use Rattle.readings.specs.declared.Burst.the-variants.{Heard, Missed}
 use Rattle.readings.specs.declared.Reading.{Reading}
-use Rattle.readings.specs.Claims.{LevelInRange}
-use Rattle.readings.specs.Hundredths.{levelOf, qualityOf}
+use Rattle.readings.specs.Claims.{LevelInRange, Within}
+use Rattle.readings.specs.Hundredths.{levelOf}
 use Rattle.sweep_rules.specs.Map.{isSet, withBit, setBits}
 use Rattle.sweep_rules.specs.Record.{visited, heard, levelAt, freshSweep, finished, wellFormed}
 use Rattle.sweep_rules.specs.Filing.{filing, leaves, answers, checking}
@@ -90,11 +90,11 @@ pub data Refuses (s : Sweep) (c : ℕ) (b : Burst) : ℕ → Type 0 where
   channelAbove : WellFormed s → 1086 < c → Refuses s c b 2
   -- 3: "a channel already visited in this sweep"
   visitedBefore : WellFormed s → 2 ≤ c → c ≤ 1086 → visited s c ≡ true → Refuses s c b 3
-  -- 1: "a level or quality, as a float .., is outside its range", by the readings' rule; "Both floats of a heard burst are tested in a sweep"
-  levelOutside : (r : Reading) → WellFormed s → 2 ≤ c → c ≤ 1086 → visited s c ≡ false → b ≡ Heard r → levelOf (r .level) ≡ refused 1
-      → Refuses s c b 1
-  qualityOutside : (r : Reading) → WellFormed s → 2 ≤ c → c ≤ 1086 → visited s c ≡ false → b ≡ Heard r → qualityOf (r .quality) ≡ refused 1
-      → Refuses s c b 1
+  -- 1: "a level or quality, as a float .., is outside its range"; "Both floats of a heard burst are tested in a sweep"
+  levelOutside : (r : Reading) → WellFormed s → 2 ≤ c → c ≤ 1086 → visited s c ≡ false → b ≡ Heard r
+      → ¬ (Within (negℤ (pos 150)) (pos 0) (r .level)) → Refuses s c b 1
+  qualityOutside : (r : Reading) → WellFormed s → 2 ≤ c → c ≤ 1086 → visited s c ≡ false → b ≡ Heard r
+      → ¬ (Within (negℤ (pos 30)) (pos 40) (r .quality)) → Refuses s c b 1
 
 -- the table has no number for the filing
 abbrev pub Accepts : Sweep → ℕ → Burst → Type 0

@@ -42,10 +42,9 @@ key-requires c κs =
     let l = c .before .before .before .before .before in
     let s = l .before .before .before .args .s in
     let z = levelAt s (l .loop .c) in
-    let h : l .loop .c < channels = omega arith in (
-      ap levelInRange (toZ-ofZ w32 z (record { sfits = c .level .given })) ∙ level-range s (wellFormedRule s .0 (l .before .before .before .pre)) (l .loop .c) h,
-      h,
-    )
+    let h : l .loop .c < channels = omega arith in
+    let w = wellFormedRule s .0 (l .before .before .before .pre) in
+    (ap levelInRange (toZ-ofZ w32 z (record { sfits = c .level .given })) ∙ level-range s w (l .loop .c) h, h)
 
 mul-list : tie.Need-mul-list Inv-loop μ-loop
 mul-list c = let l = c .before .before .before .before .before .before in let g = l .loop .inv .1 .few in omega arith

@@ -1,5 +1,6 @@
 -- `choice_rules::claimed` meets its contract: each of its parts is a theorem of this folder.
-use Rattle.choice_rules.proofs.Claims.{refusalRule, searchOrderRule, nearPartRule, triedIsPlace, noBeamExactly, unheardBytes, answersDiffer, answersTold}
+use Rattle.choice_rules.proofs.Claims.{refusalRule, searchOrderRule, nearPartRule, triedIsPlace}
+use Rattle.choice_rules.proofs.Claims.{noBeamExactly, unheardBytes, answersDiffer, answersTold}
 use Rattle.choice_rules.proofs.claimed.Statement.{statement}
 use Rattle.choice_rules.proofs.claimed.Tie as tie
 
