@@ -210,14 +210,16 @@ triedIsPlace s m o = record {
         let A = accepted-is s m o (camp c n) e in
         let q = names s m o (camp c n) A c n 1 (λ d j t f. named-camp (outcomeAt o) d j t c n (sym f)) (λ k f. camp-not c n k f) in
         (no-row s m o (camp c n) e, q .0, q .1),
-    λ h. tells s m o (camp c n) (λ b A. is-named s m o b A c n (h .1) (ap isOpen (h .2)) ∙ ap (λ (x : ℕ). cond (eqb x suitable) (camp c n) (read c n)) (h .2)) (h .0),
+    λ h. tells s m o (camp c n) (λ b A. is-named s m o b A c n (h .1) (ap isOpen (h .2))
+        ∙ ap (λ (x : ℕ). cond (eqb x suitable) (camp c n) (read c n)) (h .2)) (h .0),
   );
   reads = λ c n. (
     λ e.
         let A = accepted-is s m o (read c n) e in
         let q = names s m o (read c n) A c n 0 (λ d j t f. named-read (outcomeAt o) d j t c n (sym f)) (λ k f. read-not c n k f) in
         (no-row s m o (read c n) e, q .0, q .1),
-    λ h. tells s m o (read c n) (λ b A. is-named s m o b A c n (h .1) (ap isOpen (h .2)) ∙ ap (λ (x : ℕ). cond (eqb x suitable) (camp c n) (read c n)) (h .2)) (h .0),
+    λ h. tells s m o (read c n) (λ b A. is-named s m o b A c n (h .1) (ap isOpen (h .2))
+        ∙ ap (λ (x : ℕ). cond (eqb x suitable) (camp c n) (read c n)) (h .2)) (h .0),
   );
   none = λ n. (
     λ e. let q = all-closed s m o (noBeam n) (accepted-is s m o (noBeam n) e) n refl in (no-row s m o (noBeam n) e, q .0, q .1),

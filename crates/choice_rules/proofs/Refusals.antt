@@ -69,9 +69,11 @@ module _ (s : Sweep) (m : ℤ) (o : List ℕ) where
       (λ (f : outcomesFine o ≡ true). ⊎-elim
       (λ (r : marginInRange m ≡ true). ⊎-elim
       (λ (d : finished s ≡ true). absurd (gives-refused (says-chosen s m o w f r d ∙ e)))
-      (λ (d : finished s ≡ false). row-is e (says-4 s m o w f r d) (unfinished (wellFormedRule s .0 w) (fine-in o f) (margin-in m r) (says-no (finished s) (in-finished s) d)))
+      (λ (d : finished s ≡ false). row-is e (says-4 s m o w f r d)
+      (unfinished (wellFormedRule s .0 w) (fine-in o f) (margin-in m r) (says-no (finished s) (in-finished s) d)))
       (which (finished s)))
-      (λ (r : marginInRange m ≡ false). row-is e (says-7 s m o w f r) (marginOutOfRange (wellFormedRule s .0 w) (fine-in o f) (says-no (marginInRange m) (in-margin m) r)))
+      (λ (r : marginInRange m ≡ false). row-is e (says-7 s m o w f r)
+      (marginOutOfRange (wellFormedRule s .0 w) (fine-in o f) (says-no (marginInRange m) (in-margin m) r)))
       (which (marginInRange m)))
       (λ (f : outcomesFine o ≡ false). row-is e (says-8 s m o w f) (outcomesFaulty (wellFormedRule s .0 w) (says-no (outcomesFine o) (in-fine o) f)))
       (which (outcomesFine o)))

@@ -89,7 +89,8 @@ module _ (s : Sweep) (f : Filing) (t : Sweep) (P : Passed s (f .channel)) (F : F
           levelInRange = λ c l. subst LevelInRange (sym (F .levelsKept is c)) (p .levelInRange c l);
         };
         visitedMore = more-set (s .visited) (t .visited) (f .channel) low (P .clear) (F .visits);
-        heardMore = same-set (s .heard) (t .heard) (F .misses is) ∙ ap (λ (x : Burst). cond (isHeard x) (suc (setBits (s .heard))) (setBits (s .heard))) (sym is);
+        heardMore = same-set (s .heard) (t .heard) (F .misses is)
+            ∙ ap (λ (x : Burst). cond (isHeard x) (suc (setBits (s .heard))) (setBits (s .heard))) (sym is);
         visitedIs = F .visits;
         heardIs = λ d. (
           λ e. inl (sym (F .misses is d) ∙ e),

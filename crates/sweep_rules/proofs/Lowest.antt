@@ -126,7 +126,8 @@ module _ (s : Sweep) where
 
   all-visited : WellFormed s → finished s ≡ true → setBits (s .visited) ≡ 1085
   unfolding setBits
-  all-visited w f = many-same (visited s) swept channels (λ c l. same-test (visited s c) (swept c) (visited-swept s w c l) (swept-all (finished-all f) c l)) ∙ number-swept
+  all-visited w f = many-same (visited s) swept channels (λ c l. same-test (visited s c) (swept c) (visited-swept s w c l)
+      (swept-all (finished-all f) c l)) ∙ number-swept
 
   visited-all : WellFormed s → setBits (s .visited) ≡ 1085 → finished s ≡ true
   unfolding setBits

@@ -18,9 +18,9 @@ use denote.Array.{Array, each}
 use denote.Plain.{UInt}
 use denote.Laws.{Is}
 use denote.Shadow.{shadow}
-use Rattle.sweep_rules.specs.Map.{channels, bitAt, isSet, withBit, howMany, setBits}
+use Rattle.sweep_rules.specs.Map.{bitAt, isSet, withBit, howMany, setBits}
 use Rattle.sweep_rules.specs.Claims.{onesOf, OnesAreChannels, OneBitSet}
-use Rattle.sweep_rules.proofs.Tests.{which, same-or-not, many-split, many-same, many-more}
+use Rattle.sweep_rules.proofs.Tests.{which, same-or-not, many-split, many-same}
 use Rattle.sweep_rules.proofs.Words.{ones-bits, set-it, set-below, set-above, run-in-word, run-at-clear}
 
 -- ---- the words of an array by value are below 2 ^ 64

@@ -24,7 +24,8 @@ unfolding after acceptedOf
 accepted-more [] s f = refl
 accepted-more (g ∷ fs) s f =
     let u = leaves s (told s g) in
-    cond-append (isAccepted (told s g)) g (acceptedOf u fs) (acceptedOf u (fs ++ (f ∷ []))) (cond (isAccepted (told (after u fs) f)) (f ∷ []) []) (accepted-more fs u f)
+    cond-append (isAccepted (told s g)) g (acceptedOf u fs) (acceptedOf u (fs ++ (f ∷ []))) (cond (isAccepted (told (after u fs) f)) (f ∷ []) [])
+    (accepted-more fs u f)
 
 heard-more : (fs : List Filing) (f : Filing) → heardOf (fs ++ (f ∷ [])) ≡ heardOf fs ++ cond (isHeard (f .burst)) (f ∷ []) []
 unfolding heardOf

@@ -43,7 +43,8 @@ key-requires c κs =
     let s = l .before .before .before .args .s in
     let z = levelAt s (l .loop .c) in
     let h : l .loop .c < channels = omega arith in (
-      ap levelInRange (toZ-ofZ w32 z (record { sfits = c .level .given })) ∙ level-range s (wellFormedRule s .0 (l .before .before .before .pre)) (l .loop .c) h,
+      ap levelInRange (toZ-ofZ w32 z (record { sfits = c .level .given }))
+          ∙ level-range s (wellFormedRule s .0 (l .before .before .before .pre)) (l .loop .c) h,
       h,
     )
 
