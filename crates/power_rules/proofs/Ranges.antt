@@ -25,7 +25,16 @@ usable p e =
     let panmax = both _ _ (limits .0) in
     let panmin = both _ _ (panmax .0) in
     let paninit = both _ _ (panmin .0) in
-    record { sqt = leb-true _ _ (paninit .0); paninit = leb-true _ _ (paninit .1); panmin = leb-true _ _ (panmin .1); panmax = leb-true _ _ (panmax .1); limits = leb-true _ _ (limits .1); gainup = leb-true _ _ (gainup .1); gaindn = leb-true _ _ (gaindn .1); mestep = leb-true _ _ (mestep .1) }
+    record {
+      sqt = leb-true _ _ (paninit .0);
+      paninit = leb-true _ _ (paninit .1);
+      panmin = leb-true _ _ (panmin .1);
+      panmax = leb-true _ _ (panmax .1);
+      limits = leb-true _ _ (limits .1);
+      gainup = leb-true _ _ (gainup .1);
+      gaindn = leb-true _ _ (gaindn .1);
+      mestep = leb-true _ _ (mestep .1);
+    }
 
 pub formed : (r : PowerRecord) → wellFormed r ≡ true → WellFormed r
 formed r e =

@@ -23,7 +23,9 @@ use Rattle.power_rules.proofs.Ranges.{usable, formed, well-formed}
 -- ---- each test from its words, and the words from the test
 
 in-range : (p : PowerParameters) → InRange p → parametersInRange p ≡ true
-in-range p u = and-true _ _ (and-true _ _ (and-true _ _ (and-true _ _ (and-true _ _ (and-true _ _ (and-true _ _ (le-leb _ _ (u .sqt)) (le-leb _ _ (u .paninit))) (le-leb _ _ (u .panmin))) (le-leb _ _ (u .panmax))) (le-leb _ _ (u .limits))) (le-leb _ _ (u .gainup))) (le-leb _ _ (u .gaindn))) (le-leb _ _ (u .mestep))
+in-range p u = and-true _ _ (and-true _ _ (and-true _ _ (and-true _ _
+    (and-true _ _ (and-true _ _ (and-true _ _ (le-leb _ _ (u .sqt)) (le-leb _ _ (u .paninit))) (le-leb _ _ (u .panmin))) (le-leb _ _ (u .panmax)))
+    (le-leb _ _ (u .limits))) (le-leb _ _ (u .gainup))) (le-leb _ _ (u .gaindn))) (le-leb _ _ (u .mestep))
 
 codes-in : (d : Decoded) → codesInRange d ≡ true → CodesInRange d
 codes-in Failed e = tt
@@ -59,7 +61,8 @@ module _ (p : PowerParameters) (r : PowerRecord) (d : Decoded) (sqi : ℤ) where
   unfolding stepped
   says-1 f g q = rw (f, g, q)
 
-  not-refused : (n : ℕ) → wellFormed r ≡ true → (parametersInRange p && codesInRange d) ≡ true → qualityInRange sqi ≡ true → stepped p r d sqi .answer ≡ refused n → ⊥
+  not-refused : (n : ℕ) → wellFormed r ≡ true → (parametersInRange p && codesInRange d) ≡ true → qualityInRange sqi ≡ true
+      → stepped p r d sqi .answer ≡ refused n → ⊥
   unfolding stepped sending
   not-refused n f g q = rw (f, g, q) (λ e. gives-refused e)
 
@@ -89,8 +92,10 @@ module _ (p : PowerParameters) (r : PowerRecord) (d : Decoded) (sqi : ℤ) where
 
   from-row : {n : ℕ} → Refuses p r d sqi n → stepped p r d sqi .answer ≡ refused n
   from-row (unformed w) = says-9 (fails (wellFormed r) (formed r) w)
-  from-row (parameter w a) = says-7 (well-formed r w) (fails (parametersInRange p && codesInRange d) (λ g. usable p (both (parametersInRange p) (codesInRange d) g .0)) a)
-  from-row (code w a) = says-7 (well-formed r w) (fails (parametersInRange p && codesInRange d) (λ g. codes-in d (both (parametersInRange p) (codesInRange d) g .1)) a)
+  from-row (parameter w a) = says-7 (well-formed r w) (fails (parametersInRange p && codesInRange d)
+      (λ g. usable p (both (parametersInRange p) (codesInRange d) g .0)) a)
+  from-row (code w a) = says-7 (well-formed r w) (fails (parametersInRange p && codesInRange d)
+      (λ g. codes-in d (both (parametersInRange p) (codesInRange d) g .1)) a)
   from-row (quality w a b q) = says-1 (well-formed r w) (and-true _ _ (in-range p a) (in-codes d b)) (fails (qualityInRange sqi) (rangeRule .quality sqi .0) q)
 
 -- ---- a start, and the test of a record

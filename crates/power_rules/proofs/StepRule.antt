@@ -63,7 +63,11 @@ rule4 : (p : PowerParameters) (left : PowerRecord) → Rule4 p left (panToSend p
 unfolding panToSend
 rule4 p left =
     let exact = pos (codeStep * left .panbasic) -ℤ pos (left .increase) in
-    record { whole = shrZ exact codeStep; rounded = roundsDown exact codeStep (lit< tt); brought = brought-into (pos (p .panmin)) (pos (p .panmax)) (shrZ exact codeStep) }
+    record {
+      whole = shrZ exact codeStep;
+      rounded = roundsDown exact codeStep (lit< tt);
+      brought = brought-into (pos (p .panmin)) (pos (p .panmax)) (shrZ exact codeStep);
+    }
 
 pub stepRule : StepRule
 unfolding sending

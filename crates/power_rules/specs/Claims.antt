@@ -115,7 +115,8 @@ pub record ByTheRules (p : PowerParameters) (r : PowerRecord) (d : Decoded) (sqi
 
 -- every accepted step goes by the rules
 abbrev pub StepRule : Type 0
-StepRule = (p : PowerParameters) (r : PowerRecord) (d : Decoded) (sqi : ℤ) (s : ToSend) → stepped p r d sqi .answer ≡ gives s → ByTheRules p r d sqi (stepped p r d sqi .power) s
+StepRule = (p : PowerParameters) (r : PowerRecord) (d : Decoded) (sqi : ℤ) (s : ToSend) → stepped p r d sqi .answer ≡ gives s
+    → ByTheRules p r d sqi (stepped p r d sqi .power) s
 
 -- ---- answers
 

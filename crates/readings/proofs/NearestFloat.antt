@@ -99,7 +99,8 @@ module _ (n : ℕ) (h : n < 65536) where
   target-is : n * 2 ^ (141 - k) * 256 * 2 ^ k ≡ target
   target-is =
       mul-assoc (n * 2 ^ (141 - k)) 256 (2 ^ k) ∙ mul-assoc n (2 ^ (141 - k)) (256 * 2 ^ k)
-      ∙ ap (λ (x : ℕ). n * x) (sym (mul-assoc (2 ^ (141 - k)) 256 (2 ^ k)) ∙ ap (λ (x : ℕ). x * 2 ^ k) (mul-comm (2 ^ (141 - k)) 256) ∙ mul-assoc 256 (2 ^ (141 - k)) (2 ^ k) ∙ ap (λ (x : ℕ). 256 * x) (sym (pow-add 2 (141 - k) k) ∙ ap (λ (i : ℕ). 2 ^ i) (back 141 k small)))
+      ∙ ap (λ (x : ℕ). n * x) (sym (mul-assoc (2 ^ (141 - k)) 256 (2 ^ k)) ∙ ap (λ (x : ℕ). x * 2 ^ k) (mul-comm (2 ^ (141 - k)) 256)
+      ∙ mul-assoc 256 (2 ^ (141 - k)) (2 ^ k) ∙ ap (λ (x : ℕ). 256 * x) (sym (pow-add 2 (141 - k) k) ∙ ap (λ (i : ℕ). 2 ^ i) (back 141 k small)))
 
   no-tie : target % u * 2 ≡ u → ⊥
   no-tie e = no-tie-at (n * 2 ^ (141 - k)) (target / u) (2 ^ k) (target % u) (pow-pos k) (div-add-mod' target u ∙ sym target-is) e
@@ -117,7 +118,8 @@ module _ (n : ℕ) (h : n < 65536) where
     other = q * 2 ^ j
 
     coarse : k ≤ j → q * 2 ^ (j - k) * u ≡ 100 * other
-    coarse l = regroup (q * 2 ^ (j - k)) (2 ^ k) ∙ ap (λ (x : ℕ). 100 * x) (mul-assoc q (2 ^ (j - k)) (2 ^ k) ∙ ap (λ (x : ℕ). q * x) (sym (pow-add 2 (j - k) k) ∙ ap (λ (i : ℕ). 2 ^ i) (back j k l)))
+    coarse l = regroup (q * 2 ^ (j - k)) (2 ^ k) ∙ ap (λ (x : ℕ). 100 * x)
+        (mul-assoc q (2 ^ (j - k)) (2 ^ k) ∙ ap (λ (x : ℕ). q * x) (sym (pow-add 2 (j - k) k) ∙ ap (λ (i : ℕ). 2 ^ i) (back j k l)))
 
     coarse-further : k ≤ j → (other ≡ grid n → ⊥) → gap (100 * grid n) target < gap (100 * other) target
     coarse-further l ne =
@@ -126,11 +128,13 @@ module _ (n : ℕ) (h : n < 65536) where
         (further target u (keeps n) closely (q * 2 ^ (j - k)) (λ e. ne (same e))))
       where
         same : q * 2 ^ (j - k) ≡ keeps n → other ≡ grid n
-        same e = sym (mul-assoc q (2 ^ (j - k)) (2 ^ k) ∙ ap (λ (x : ℕ). q * x) (sym (pow-add 2 (j - k) k) ∙ ap (λ (i : ℕ). 2 ^ i) (back j k l))) ∙ ap (λ (x : ℕ). x * 2 ^ k) e
+        same e = sym (mul-assoc q (2 ^ (j - k)) (2 ^ k) ∙ ap (λ (x : ℕ). q * x) (sym (pow-add 2 (j - k) k) ∙ ap (λ (i : ℕ). 2 ^ i) (back j k l)))
+            ∙ ap (λ (x : ℕ). x * 2 ^ k) e
 
     -- a finer one lies below 2 ^ (23 + k), which the target reaches
     reached : j < k → 100 * 2 ^ (23 + k) ≤ target
-    reached l = le-trans (subst (λ (x : ℕ). x ≤ target / 100 * 100) (mul-comm (2 ^ (23 + k)) 100) (mul-le-mul-right 100 (size-reaches (target / 100) (23 + k) (wide (size (target / 100)) l)))) (div-mul-le-self target 100)
+    reached l = le-trans (subst (λ (x : ℕ). x ≤ target / 100 * 100) (mul-comm (2 ^ (23 + k)) 100)
+        (mul-le-mul-right 100 (size-reaches (target / 100) (23 + k) (wide (size (target / 100)) l)))) (div-mul-le-self target 100)
       where
         wide : (z : ℕ) → j < z - 24 → 23 + (z - 24) < z
         wide z l = omega arith
@@ -160,7 +164,9 @@ module _ (n : ℕ) (h : n < 65536) where
     two-signs ne =
         byCase (eqb (keeps n) 0)
         (λ e. none (grid n) other target (ap (λ (x : ℕ). x * 2 ^ k) (eqb→eq (keeps n) 0 (subst T (sym e) tt)) ∙ zero-mul (2 ^ k)) ne)
-        (λ e. some (100 * grid n) other target (subst (λ (x : ℕ). gap x target < gap 0 target) grid-is (subst (λ (x : ℕ). gap (keeps n * u) target < gap x target) (zero-mul u) (further target u (keeps n) closely 0 (λ z. eqb-false (keeps n) 0 e (sym z))))))
+        (λ e. some (100 * grid n) other target (subst (λ (x : ℕ). gap x target < gap 0 target) grid-is
+        (subst (λ (x : ℕ). gap (keeps n * u) target < gap x target) (zero-mul u)
+        (further target u (keeps n) closely 0 (λ z. eqb-false (keeps n) 0 e (sym z))))))
       where
         none : (g y a : ℕ) → g ≡ 0 → (y ≡ 0 → g ≡ 0 → ⊥) → gap (100 * g) a < 100 * y + a
         none g zero a e ne = absurd (ne refl e)
@@ -192,11 +198,24 @@ in-units t (suc m) f x = go f (leb→le (down f) (2 ^ 149) (and-r (eqb (suc m % 
     lower = and-l (eqb (suc m % 2) 1 && ltb (suc m) (2 ^ 24) && leb (down f) (2 ^ 149)) (ltb (suc m * up f) (2 ^ 128 * down f)) x
 
     few : suc m < 2 ^ 24
-    few = ltb→lt (suc m) (2 ^ 24) (and-r (eqb (suc m % 2) 1) (ltb (suc m) (2 ^ 24)) (and-l (eqb (suc m % 2) 1 && ltb (suc m) (2 ^ 24)) (leb (down f) (2 ^ 149)) lower))
+    few = ltb→lt (suc m) (2 ^ 24) (and-r (eqb (suc m % 2) 1) (ltb (suc m) (2 ^ 24))
+        (and-l (eqb (suc m % 2) 1 && ltb (suc m) (2 ^ 24)) (leb (down f) (2 ^ 149)) lower))
 
     go : (f : ℤ) → down f ≤ 2 ^ 149 → InUnits (suc m * up f) (down f)
-    go (pos i) l = record { q = suc m; j = i + 149; few = few; is = mul-assoc (suc m) (2 ^ i) (2 ^ 149) ∙ ap (λ (y : ℕ). suc m * y) (sym (pow-add 2 i 149)) ∙ sym (mul-one (suc m * 2 ^ (i + 149))) }
-    go (negsuc i) l = record { q = suc m; j = 149 - suc i; few = few; is = ap (λ (y : ℕ). y * 2 ^ 149) (mul-one (suc m)) ∙ ap (λ (y : ℕ). suc m * y) (sym (whole-step (suc i) low)) ∙ sym (mul-assoc (suc m) (2 ^ (149 - suc i)) (2 ^ suc i)) }
+    go (pos i) l = record {
+      q = suc m;
+      j = i + 149;
+      few = few;
+      is = mul-assoc (suc m) (2 ^ i) (2 ^ 149)
+          ∙ ap (λ (y : ℕ). suc m * y) (sym (pow-add 2 i 149)) ∙ sym (mul-one (suc m * 2 ^ (i + 149)));
+    }
+    go (negsuc i) l = record {
+      q = suc m;
+      j = 149 - suc i;
+      few = few;
+      is = ap (λ (y : ℕ). y * 2 ^ 149) (mul-one (suc m))
+          ∙ ap (λ (y : ℕ). suc m * y) (sym (whole-step (suc i) low)) ∙ sym (mul-assoc (suc m) (2 ^ (149 - suc i)) (2 ^ suc i));
+    }
       where
         low : suc i ≤ 149
         low = byCase (ltb 149 (suc i)) (λ e. absurd (not-le-of-lt (pow-lt (ltb-true 149 (suc i) e)) l)) (λ e. ltb-false 149 (suc i) e)
@@ -241,10 +260,12 @@ module _ (s t : Bool) (w z d d′ U G Y : ℕ) (p : 0 < U) (e : w * U ≡ G * d)
       size : z * d ≡ w * d′
       size =
           eq-of-mul-eq-mul-right U p (z * d) (w * d′)
-          (mul-right-comm z d U ∙ ap (λ (x : ℕ). x * d) f ∙ mul-right-comm Y d′ d ∙ ap (λ (x : ℕ). x * d * d′) g ∙ ap (λ (x : ℕ). x * d′) (sym e) ∙ mul-right-comm w U d′)
+          (mul-right-comm z d U ∙ ap (λ (x : ℕ). x * d) f ∙ mul-right-comm Y d′ d ∙ ap (λ (x : ℕ). x * d * d′) g ∙ ap (λ (x : ℕ). x * d′) (sym e)
+          ∙ mul-right-comm w U d′)
 
   both-zero : Y ≡ 0 → G ≡ 0 → signed t z *ℤ pos d ≡ signed s w *ℤ pos d′
-  both-zero a b = none t z d (zero-factor z U p (f ∙ ap (λ (x : ℕ). x * d′) a ∙ zero-mul d′)) ∙ sym (none s w d′ (zero-factor w U p (e ∙ ap (λ (x : ℕ). x * d) b ∙ zero-mul d)))
+  both-zero a b = none t z d (zero-factor z U p (f ∙ ap (λ (x : ℕ). x * d′) a ∙ zero-mul d′))
+      ∙ sym (none s w d′ (zero-factor w U p (e ∙ ap (λ (x : ℕ). x * d) b ∙ zero-mul d)))
     where
       zero-signed : (b : Bool) → signed b 0 ≡ pos 0
       zero-signed false = refl

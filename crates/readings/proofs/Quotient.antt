@@ -63,7 +63,8 @@ few z h = omega arith
 pub dropped-le : (n : ℕ) → n < 65536 → dropped n ≤ 141
 dropped-le n h =
     few (size (n * 2 ^ 149 / 100))
-    (size-le (n * 2 ^ 149 / 100) 165 (lt-of-le-of-lt (div-le-self (n * 2 ^ 149) 100) (mul-lt-mul-of-pos-right {m = n} {n = 65536} {k = 2 ^ 149} h (pow-pos 149))))
+    (size-le (n * 2 ^ 149 / 100) 165 (lt-of-le-of-lt (div-le-self (n * 2 ^ 149) 100)
+    (mul-lt-mul-of-pos-right {m = n} {n = 65536} {k = 2 ^ 149} h (pow-pos 149))))
 
 -- what is left of a unit of 2 ^ 149 is well below a half of it
 step-lt : (n : ℕ) → n < 65536 → 100 * 2 ^ dropped n < 2 ^ 149

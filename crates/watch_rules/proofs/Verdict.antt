@@ -16,7 +16,7 @@ use Rattle.refusal.specs.Told.{Told, gives}
 use Rattle.watch_rules.specs.declared.Watch.{Watch}
 use Rattle.watch_rules.specs.Lists.{every, is, sum}
 use Rattle.readings.specs.Channels.{channelHighest, channelInRange}
-use Rattle.watch_rules.specs.Limits.{hysteresisInRange, depth}
+use Rattle.watch_rules.specs.Limits.{depth}
 use Rattle.watch_rules.specs.Told.{Call, verdict, Given, wait, stay, moveTo}
 use Rattle.watch_rules.specs.Rules.{View, serves, answer, full, levelsIf, servingLevels, exceeds, counts, target, stayOrMove, verdictOf}
 use Rattle.watch_rules.specs.Plain.{idle, after}
@@ -233,12 +233,17 @@ module _ (w : Watch) (s : ℕ) (h : ℤ) (serving : shown (rows w) .serving ≡ 
   judged ranged =
       record {
         waits = (
-          (λ e. byCase (full (servingLevels view)) (λ f. absurd (stay-or-move-wait (target view h) (sym (verdict-full view h f) ∙ given e))) (λ f. waiting-is .0 f)),
+          (λ e. byCase (full (servingLevels view)) (λ f. absurd (stay-or-move-wait (target view h) (sym (verdict-full view h f) ∙ given e)))
+              (λ f. waiting-is .0 f)),
           (λ l. ap gives (verdict-waits view h (waiting-is .1 l))),
         );
         stays = (
           (λ e. byCase (full (servingLevels view))
-              (λ f. (ready-is .0 f, (λ c k. none-target view h ranged (stay-or-move-stay (target view h) (sym (verdict-full view h f) ∙ given e)) c (counts-in k))))
+              (λ f. (
+                ready-is .0 f,
+                (λ c k. none-target view h ranged (stay-or-move-stay (target view h) (sym (verdict-full view h f) ∙ given e)) c
+                    (counts-in k)),
+              ))
               (λ f. absurd (wait-is-no (verdictOf view h) (verdict-waits view h f) .0 (given e)))),
           (λ n. ap gives (verdict-full view h (ready-is .1 (n .0)) ∙ ap stayOrMove (target-none view h ranged (λ c k. n .1 c (counts-out k))))),
         );
