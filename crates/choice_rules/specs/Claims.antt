@@ -1,4 +1,5 @@
--- What is claimed of the choice beyond the call's contract, in document 01's words and numbers; proved in `proofs/Claims.antt` under the same names.
+-- What is claimed of the choice beyond the call's contract, in document 01's words and numbers; each is proved in `proofs/` under its name
+-- with a small first letter.
 use Prim.Native.Nat.{ℕ, suc, _≤_, _<_}
 use mathlib.Core.Path.{_≡_}
 use mathlib.Core.Bool.{Bool, true}

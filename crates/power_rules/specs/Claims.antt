@@ -1,4 +1,4 @@
--- What is claimed of the power steps beyond each call's contract; proved in `proofs/Claims.antt` under the same names.
+-- What is claimed of the power steps beyond each call's contract; each is proved in `proofs/` under its name with a small first letter.
 use Prim.Native.Nat.{ℕ, _+_, _*_, _≤_, _<_, min}
 use mathlib.Core.Path.{_≡_}
 use mathlib.Core.Logic.{_↔_}

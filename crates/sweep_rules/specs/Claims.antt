@@ -1,4 +1,5 @@
--- What is claimed of the sweep beyond each call's contract, in document 01's words and numbers; proved in `proofs/Claims.antt` under the same names.
+-- What is claimed of the sweep beyond each call's contract, in document 01's words and numbers; each is proved in `proofs/` under its name
+-- with a small first letter.
 use Prim.Native.Nat.{ℕ, _+_, _/_, _%_, _≤_, _<_, _^_}
 use mathlib.Core.Path.{_≡_}
 use mathlib.Core.Bool.{Bool, true, false, _||_, cond}
