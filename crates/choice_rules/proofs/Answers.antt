@@ -1,6 +1,6 @@
 -- What is chosen. The first open channel of the near part stands at some place j, and all before it are closed, so none of them is it: its place in
 -- the search order, of which the near part is a beginning, is j + 1.
-use Prim.Native.Nat.{ℕ, zero, suc, _+_, _≤_, _<_}
+use Prim.Native.Nat.{ℕ, zero, suc, _≤_, _<_}
 use mathlib.Core.Path.{_≡_, refl, sym, ap, _∙_}
 use mathlib.Core.Bool.{Bool, true, false, cond, _||_, false≢true}
 use mathlib.Core.List.{List, [], _∷_, _++_}
