@@ -41,7 +41,7 @@ fn number_of(answer: Answer) -> u32
     match answer {
         Answer::Accepted => 100,
         Answer::Refused(why) => refusal::number(why),
-        Answer::Levels { count, mean } => 20000 * ((count % 65536) as u32 + 1) + size(mean),
+        Answer::Levels { count, mean } => 20000 * (count % 65536 + 1) + size(mean),
         Answer::Wait => 102,
         Answer::Stay => 103,
         Answer::MoveTo(c) => 2000 + (c as u32),

@@ -316,11 +316,18 @@ pub fn step(p: PowerParameters, r: PowerRecord, d: Decoded, sqi: i32) -> Stepped
     }
 }
 
+// The step with the record first, as `advance` calls it.
+fn advanced(r: PowerRecord, p: PowerParameters, d: Decoded, sqi: i32) -> Stepped
+    ensures { λ s. ⌜ (toldAnswer (s .answer) ≡ stepped p r d sqi .answer) × (s .power ≡ stepped p r d sqi .power) ⌝ }
+{
+    step(p, r, d, sqi)
+}
+
 // One step on a record that is lent, which is advanced there. A refused step stores the same record again.
 pub fn advance(r: &mut PowerRecord, p: PowerParameters, d: Decoded, sqi: i32) -> Answer
     ensures { λ a. ⌜ (toldAnswer a ≡ stepped p (now (r .entry)) d sqi .answer) × (now (r .exit) ≡ stepped p (now (r .entry)) d sqi .power) ⌝ }
 {
-    let s = step(p, *r, d, sqi);
+    let s = advanced(*r, p, d, sqi);
     *r = s.power;
     s.answer
 }

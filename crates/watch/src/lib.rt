@@ -161,12 +161,9 @@ pub fn ask(w: Watch, channel: u16) -> Handed
         return refused(w, Refusal::NotWatched);
     }
     let t = tracks[p];
-    let m = mean_of(t);
-    let a = Answer::Levels {
-        count: t.count,
-        mean: m,
-    };
-    answered(w, a)
+    let mean = mean_of(t);
+    let count = t.count as u32;
+    answered(w, Answer::Levels { count, mean })
 }
 
 // A hysteresis lies in its range.

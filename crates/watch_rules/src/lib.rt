@@ -37,7 +37,7 @@ pub struct Watch {
 pub enum Answer {
     Accepted,
     Refused(Refusal),
-    Levels { count: usize, mean: i32 },
+    Levels { count: u32, mean: i32 },
     Wait,
     Stay,
     MoveTo(u16),

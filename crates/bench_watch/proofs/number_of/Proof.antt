@@ -54,9 +54,6 @@ enum-told-3 c = search needs
 enum-known-answer-3 : tie.Need-enum-known-answer-3
 enum-known-answer-3 c = search needs
 
-cast-result-2 : tie.Need-cast-result-2
-cast-result-2 c = search needs
-
 add-result-3 : tie.Need-add-result-3
 add-result-3 c = search needs
 
@@ -94,7 +91,6 @@ number-of-spec =
     enum-known-answer
     number-requires
     enum-known-answer-2
-    cast-result
     add-result
     mul-result
     size-requires
@@ -102,7 +98,7 @@ number-of-spec =
     enum-told-2
     enum-told-3
     enum-known-answer-3
-    cast-result-2
+    cast-result
     add-result-3
     returns
     returns-2

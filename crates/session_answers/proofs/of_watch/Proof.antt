@@ -26,6 +26,9 @@ refused-requires c κs = search needs
 enum-known-answer-2 : tie.Need-enum-known-answer-2
 enum-known-answer-2 c = search needs
 
+cast-asked : tie.Need-cast-asked
+cast-asked c = search needs
+
 asked-requires : tie.Need-asked-requires
 asked-requires c κs = search needs
 
@@ -96,6 +99,7 @@ of-watch-spec =
     enum-known-answer
     refused-requires
     enum-known-answer-2
+    cast-asked
     asked-requires
     enum-told-2
     slice-aggregate-only-2

@@ -18,7 +18,8 @@ use Rattle.watch_rules.specs.Limits.{room}
 use Rattle.watch_rules.specs.Told.{ask, levels}
 use Rattle.watch_rules.specs.Rules.{mean}
 use Rattle.watch_rules.specs.Record.{rowOf, trackFine, wellFormed, called}
-use Rattle.watch_rules.proofs.Encode.{read-record, track-levels}
+use Rattle.watch_rules.proofs.Depth.{depth-is}
+use Rattle.watch_rules.proofs.Encode.{read-record, track-count, track-levels}
 use Rattle.watch_rules.proofs.Calls.{called-unformed, called-refused, called-granted, refuse-now, refuse-later}
 use Rattle.watch_record.specs.Code.{nothing, back}
 use Rattle.watch_list.proofs.Watched.{found-place, found-below}
@@ -78,6 +79,9 @@ fine c = found-fine (entry c .args .w) (entry c .args .channel) (formed (c .befo
 mean-of-requires : tie.Need-mean-of-requires
 mean-of-requires c κs = fine (c .before)
 
+cast-count : tie.Need-cast-count
+cast-count c = let e2 = c .before .before .before in record { fits = omega (arith, track-count (asked e2) (fine e2), depth-is) }
+
 answered-requires : tie.Need-answered-requires
 answered-requires c κs = search needs
 
@@ -94,7 +98,7 @@ granted c =
 
 returns-3 : tie.Need-returns-3
 returns-3 c =
-    let m = c .before in
+    let m = c .before .before in
     let e2 = m .before .before in
     c .answered .ensures
     ∙ ap (λ (z : ℤ). back (entry e2 .args .w) (gives (levels (asked e2 .count) z))) (toZ-ofZ (record { sfits = m .mean-of .ok }) ∙ m .mean-of .ensures)
@@ -113,5 +117,6 @@ ask-spec =
     mul-t
     array-copy-out-t
     mean-of-requires
+    cast-count
     answered-requires
     returns-3)

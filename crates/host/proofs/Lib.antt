@@ -1,3 +1,0 @@
--- The laws of the border.
-pub mod Claims
-pub mod Lent

@@ -1,3 +1,0 @@
--- The answers of the library as a host finds them: `Answers`. `Claims` says what is claimed beyond the contracts.
-pub mod Answers
-pub mod Claims

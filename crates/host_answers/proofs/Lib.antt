@@ -1,0 +1,3 @@
+-- `Rest`: the answers of a watch that a conversion leaves over. `Claims`: what a host finds fixes the library's answer.
+mod Rest
+mod Claims

@@ -1,0 +1,1 @@
+// No function: what the proofs of functions over a lent record share stands in proofs/. `Lends.antt` has the theorem that they cite, `stands`.

@@ -1,0 +1,2 @@
+-- `Lent`: what the proofs of the two lent steps share.
+mod Lent
