@@ -1,5 +1,6 @@
-/* What no session reaches, tried through the archive: records that are not well formed, the calls that no line asks for, and empty lists.
- * A damaged record is refused by every call with 9, whatever else is wrong, and is left or handed back as it was. */
+/* What no session reaches, tried through the archive: records that are not well formed, the calls that no line asks for, empty lists, and the
+ * header's names against the numbers of the archive. A damaged record is refused by every call with 9, whatever else is wrong, and is left or
+ * handed back as it was. */
 #include "beyond.h"
 
 #include <math.h>
@@ -270,6 +271,57 @@ static int empty_is_taken(void)
         && royukezan_choose(&s, 300, NULL, 0).refusal == ROYUKEZAN_OUTCOMES_FAULTY;
 }
 
+
+/* ---- The header's names. */
+
+/* A finished sweep in which one channel was heard. */
+static int swept(royukezan_sweep *s, uint16_t heard)
+{
+    uint32_t refusal = royukezan_sweep_file_heard(s, heard, -94.2f, 9.1f);
+    for (uint16_t channel = ROYUKEZAN_SWEEP_FIRST; channel <= ROYUKEZAN_SWEEP_LAST; channel++)
+        if (channel != heard)
+            refusal |= royukezan_sweep_file_missed(s, channel);
+    return refusal == ROYUKEZAN_ACCEPTED && royukezan_sweep_next(s).next == ROYUKEZAN_NEXT_DONE;
+}
+
+static int outcome_gives(const royukezan_sweep *s, uint8_t outcome, uint16_t choice)
+{
+    uint8_t outcomes[ROYUKEZAN_CHANNELS] = {0};
+    outcomes[310] = outcome;
+    royukezan_choice_answer a = royukezan_choose(s, 0, outcomes, sizeof outcomes);
+    return a.refusal == ROYUKEZAN_ACCEPTED && a.choice == choice && a.tried == 1
+        && a.channel == (choice == ROYUKEZAN_CHOICE_NO_BEAM ? 0 : 310);
+}
+
+static int outcomes_have_names(void)
+{
+    royukezan_sweep s = royukezan_sweep_fresh();
+    return swept(&s, 310) && outcome_gives(&s, ROYUKEZAN_OUTCOME_NOT_READ, ROYUKEZAN_CHOICE_READ)
+        && outcome_gives(&s, ROYUKEZAN_OUTCOME_SUITABLE, ROYUKEZAN_CHOICE_CAMP)
+        && outcome_gives(&s, ROYUKEZAN_OUTCOME_BARRED, ROYUKEZAN_CHOICE_NO_BEAM)
+        && outcome_gives(&s, ROYUKEZAN_OUTCOME_ACCESS_CLASS_NOT_ALLOWED, ROYUKEZAN_CHOICE_NO_BEAM)
+        && outcome_gives(&s, ROYUKEZAN_OUTCOME_OTHER_NETWORK, ROYUKEZAN_CHOICE_NO_BEAM)
+        && outcome_gives(&s, ROYUKEZAN_OUTCOME_UNREADABLE, ROYUKEZAN_CHOICE_NO_BEAM);
+}
+
+/* Each refusal once that is not tried above. */
+static int refusals_have_names(void)
+{
+    static const uint16_t list[ROYUKEZAN_LIST_LIMIT + 1] = {1, 2, 3, 4, 5, 6, 7};
+    static const uint8_t outcomes[ROYUKEZAN_CHANNELS];
+    royukezan_sweep s = royukezan_sweep_fresh();
+    royukezan_watch w = royukezan_watch_fresh();
+    return royukezan_sweep_file_missed(&s, ROYUKEZAN_SWEEP_FIRST - 1) == ROYUKEZAN_CHANNEL_OUT_OF_RANGE
+        && royukezan_sweep_file_missed(&s, ROYUKEZAN_SWEEP_LAST + 1) == ROYUKEZAN_CHANNEL_OUT_OF_RANGE
+        && royukezan_sweep_file_missed(&s, ROYUKEZAN_SWEEP_LAST) == ROYUKEZAN_ACCEPTED
+        && royukezan_sweep_file_missed(&s, ROYUKEZAN_SWEEP_LAST) == ROYUKEZAN_CHANNEL_VISITED
+        && royukezan_choose(&s, 300, outcomes, sizeof outcomes).refusal == ROYUKEZAN_SWEEP_UNFINISHED
+        && royukezan_watch_start(&w, ROYUKEZAN_CHANNELS) == ROYUKEZAN_CHANNEL_OUT_OF_RANGE
+        && royukezan_watch_start(&w, ROYUKEZAN_CHANNELS - 1) == ROYUKEZAN_ACCEPTED
+        && royukezan_watch_new_list(&w, list, ROYUKEZAN_LIST_LIMIT + 1) == ROYUKEZAN_LIST_FAULTY
+        && royukezan_watch_new_list(&w, list, ROYUKEZAN_LIST_LIMIT) == ROYUKEZAN_ACCEPTED;
+}
+
 const char *beyond_sessions(void)
 {
     static const struct {
@@ -284,6 +336,8 @@ const char *beyond_sessions(void)
         {read_back_is_same, "a reading that is shown and read back is not the same"},
         {bursts_are_read, "a heard burst is not read as it should be"},
         {empty_is_taken, "an empty list or string is not taken as it should be"},
+        {outcomes_have_names, "an outcome byte does not give the choice that its name says"},
+        {refusals_have_names, "a refusal does not have the number that its name says"},
     };
     for (size_t i = 0; i < LENGTH(tries); i++)
         if (!tries[i].holds())
