@@ -1,19 +1,295 @@
-/* A C program that links the archive. It reads a session file with calls on readings and power steps from standard input, makes each call
- * through the archive, and writes the lines that `replay` writes. The format is that of docs/session-format.md. */
+/* A C program over the archive: it reads a session file from standard input, makes each call through royukezan.h, and writes the lines that
+ * `replay` writes. docs/session-format.md has the format. Before that it tries what no session reaches (beyond.c). */
 #include <inttypes.h>
 #include <math.h>
 #include <stdio.h>
 #include <stdlib.h>
 #include <string.h>
 
+#include "beyond.h"
 #include "royukezan.h"
 
-#define MOST_WORDS 8
+#define LONGEST_LINE 200
+#define MOST_WORDS 9
+
+/* What a session keeps from line to line. All zeros, it is a session that begins. */
+typedef struct {
+    royukezan_sweep sweep;
+    uint8_t outcomes[ROYUKEZAN_CHANNELS];
+    royukezan_watch watch;
+    royukezan_power_record power;
+    royukezan_power_parameters parameters;
+} session;
+
+/* The numbers of a line, in their order. */
+typedef struct {
+    int64_t wholes[MOST_WORDS];
+    size_t whole_count;
+    float floats[MOST_WORDS];
+    size_t float_count;
+} numbers;
+
+
+/* ---- What the answers are written as. */
+
+static int refused(uint32_t refusal)
+{
+    if (refusal != ROYUKEZAN_ACCEPTED)
+        printf("refused %" PRIu32 "\n", refusal);
+    return refusal != ROYUKEZAN_ACCEPTED;
+}
+
+static void say_accepted(uint32_t refusal)
+{
+    if (!refused(refusal))
+        puts("accepted");
+}
+
+static void say_hundredths(royukezan_hundredths_answer a)
+{
+    if (!refused(a.refusal))
+        printf("hundredths %" PRId32 "\n", a.hundredths);
+}
+
+static void say_float(royukezan_float_answer a)
+{
+    uint32_t bits;
+    memcpy(&bits, &a.value, sizeof bits);
+    if (!refused(a.refusal))
+        printf("float 0x%08" PRIx32 "\n", bits);
+}
+
+static void say_sent(royukezan_sent_answer a)
+{
+    if (!refused(a.refusal))
+        printf("par %" PRIu32 " pan %" PRIu32 "\n", a.par, a.pan);
+}
+
+
+/* ---- The calls, one for each form of a line. */
+
+static void level(session *s, const numbers *n)
+{
+    (void)s;
+    say_hundredths(royukezan_level_to_hundredths(n->floats[0]));
+}
+
+static void quality(session *s, const numbers *n)
+{
+    (void)s;
+    say_hundredths(royukezan_quality_to_hundredths(n->floats[0]));
+}
+
+static void show_level(session *s, const numbers *n)
+{
+    (void)s;
+    say_float(royukezan_level_to_float((int32_t)n->wholes[0]));
+}
+
+static void show_quality(session *s, const numbers *n)
+{
+    (void)s;
+    say_float(royukezan_quality_to_float((int32_t)n->wholes[0]));
+}
+
+static void sweep_fresh(session *s, const numbers *n)
+{
+    (void)n;
+    s->sweep = royukezan_sweep_fresh();
+    say_accepted(ROYUKEZAN_ACCEPTED);
+}
+
+static void sweep_file_heard(session *s, const numbers *n)
+{
+    say_accepted(royukezan_sweep_file_heard(&s->sweep, (uint16_t)n->wholes[0], n->floats[0], n->floats[1]));
+}
+
+static void sweep_file_missed(session *s, const numbers *n)
+{
+    say_accepted(royukezan_sweep_file_missed(&s->sweep, (uint16_t)n->wholes[0]));
+}
+
+static void sweep_rest_missed(session *s, const numbers *n)
+{
+    royukezan_next_answer a = royukezan_sweep_next(&s->sweep);
+    uint32_t refusal = a.refusal;
+    (void)n;
+    while (refusal == ROYUKEZAN_ACCEPTED && a.next == ROYUKEZAN_NEXT_CHANNEL) {
+        refusal = royukezan_sweep_file_missed(&s->sweep, a.channel);
+        a = royukezan_sweep_next(&s->sweep);
+    }
+    say_accepted(refusal);
+}
+
+static void sweep_next(session *s, const numbers *n)
+{
+    royukezan_next_answer a = royukezan_sweep_next(&s->sweep);
+    (void)n;
+    if (refused(a.refusal))
+        return;
+    if (a.next == ROYUKEZAN_NEXT_CHANNEL)
+        printf("next %u\n", a.channel);
+    else
+        puts("done");
+}
+
+static void sweep_counts(session *s, const numbers *n)
+{
+    royukezan_counts_answer a = royukezan_sweep_counts(&s->sweep);
+    (void)n;
+    if (!refused(a.refusal))
+        printf("visited %" PRIu32 " heard %" PRIu32 "\n", a.visited, a.heard);
+}
+
+static void outcome(session *s, const numbers *n)
+{
+    s->outcomes[n->wholes[0]] = (uint8_t)n->wholes[1];
+    say_accepted(ROYUKEZAN_ACCEPTED);
+}
+
+static void choose(session *s, const numbers *n)
+{
+    royukezan_choice_answer a = royukezan_choose(&s->sweep, (int32_t)n->wholes[0], s->outcomes, sizeof s->outcomes);
+    if (refused(a.refusal))
+        return;
+    if (a.choice == ROYUKEZAN_CHOICE_NO_BEAM)
+        printf("no beam tried %" PRIu32 "\n", a.tried);
+    else
+        printf("%s %u tried %" PRIu32 "\n", a.choice == ROYUKEZAN_CHOICE_CAMP ? "camp" : "read", a.channel, a.tried);
+}
+
+static void start(session *s, const numbers *n)
+{
+    say_accepted(royukezan_watch_start(&s->watch, (uint16_t)n->wholes[0]));
+}
+
+static void new_list(session *s, const numbers *n)
+{
+    uint16_t list[MOST_WORDS];
+    for (size_t i = 0; i < n->whole_count; i++)
+        list[i] = (uint16_t)n->wholes[i];
+    say_accepted(royukezan_watch_new_list(&s->watch, list, n->whole_count));
+}
+
+static void move_to(session *s, const numbers *n)
+{
+    say_accepted(royukezan_watch_move_to(&s->watch, (uint16_t)n->wholes[0]));
+}
+
+static void file_heard(session *s, const numbers *n)
+{
+    say_accepted(royukezan_watch_file_heard(&s->watch, (uint16_t)n->wholes[0], n->floats[0], n->floats[1]));
+}
+
+static void file_missed(session *s, const numbers *n)
+{
+    say_accepted(royukezan_watch_file_missed(&s->watch, (uint16_t)n->wholes[0]));
+}
+
+static void ask(session *s, const numbers *n)
+{
+    royukezan_levels_answer a = royukezan_watch_ask(&s->watch, (uint16_t)n->wholes[0]);
+    if (!refused(a.refusal))
+        printf("count %" PRIu32 " mean %" PRId32 "\n", a.count, a.mean);
+}
+
+static void verdict(session *s, const numbers *n)
+{
+    royukezan_verdict_answer a = royukezan_watch_verdict(&s->watch, (int32_t)n->wholes[0]);
+    if (refused(a.refusal))
+        return;
+    if (a.verdict == ROYUKEZAN_VERDICT_MOVE)
+        printf("move %u\n", a.channel);
+    else
+        puts(a.verdict == ROYUKEZAN_VERDICT_STAY ? "stay" : "wait");
+}
+
+static void params(session *s, const numbers *n)
+{
+    s->parameters = (royukezan_power_parameters){
+        .sqt = (uint32_t)n->wholes[0],
+        .paninit = (uint32_t)n->wholes[1],
+        .panmin = (uint32_t)n->wholes[2],
+        .panmax = (uint32_t)n->wholes[3],
+        .gainup = (uint32_t)n->wholes[4],
+        .gaindn = (uint32_t)n->wholes[5],
+        .mestep = (uint32_t)n->wholes[6],
+    };
+    say_accepted(ROYUKEZAN_ACCEPTED);
+}
+
+/* By value: where a start is refused, a session goes on with a record of all zeros. */
+static void power_start(session *s, const numbers *n)
+{
+    royukezan_power_outcome o = royukezan_power_start_by_value(s->parameters);
+    (void)n;
+    s->power = o.power;
+    say_accepted(o.refusal);
+}
+
+static void step_decoded(session *s, const numbers *n)
+{
+    say_sent(royukezan_power_step_decoded(
+        &s->power, s->parameters, (uint32_t)n->wholes[0], (uint32_t)n->wholes[1], (int32_t)n->wholes[2]));
+}
+
+static void step_failed(session *s, const numbers *n)
+{
+    say_sent(royukezan_power_step_failed(&s->power, s->parameters, (int32_t)n->wholes[0]));
+}
+
+
+/* ---- The forms of a line: words as they stand, or the name of a kind of number; the last kind may be repeated, or be left out. */
+
+#define REPEATED "CH.."
+
+static const struct {
+    const char *name;
+    int64_t low, high;
+} kinds[] = {
+    {"CH", 0, UINT16_MAX},
+    {REPEATED, 0, UINT16_MAX},
+    {"CH1087", 0, ROYUKEZAN_CHANNELS - 1},
+    {"INT", INT32_MIN, INT32_MAX},
+    {"BYTE", 0, UINT8_MAX},
+};
+
+static const struct {
+    const char *form[MOST_WORDS];
+    void (*call)(session *s, const numbers *n);
+} calls[] = {
+    {{"level", "NUM"}, level},
+    {{"quality", "NUM"}, quality},
+    {{"show", "level", "INT"}, show_level},
+    {{"show", "quality", "INT"}, show_quality},
+    {{"sweep", "fresh"}, sweep_fresh},
+    {{"sweep", "file", "CH", "heard", "NUM", "NUM"}, sweep_file_heard},
+    {{"sweep", "file", "CH", "missed"}, sweep_file_missed},
+    {{"sweep", "rest", "missed"}, sweep_rest_missed},
+    {{"sweep", "next"}, sweep_next},
+    {{"sweep", "counts"}, sweep_counts},
+    {{"outcome", "CH1087", "BYTE"}, outcome},
+    {{"choose", "INT"}, choose},
+    {{"start", "CH"}, start},
+    {{"list", REPEATED}, new_list},
+    {{"move", "CH"}, move_to},
+    {{"file", "CH", "heard", "NUM", "NUM"}, file_heard},
+    {{"file", "CH", "missed"}, file_missed},
+    {{"ask", "CH"}, ask},
+    {{"verdict", "INT"}, verdict},
+    {{"params", "BYTE", "BYTE", "BYTE", "BYTE", "BYTE", "BYTE", "BYTE"}, params},
+    {{"power", "start"}, power_start},
+    {{"step", "failed", "INT"}, step_failed},
+    {{"step", "BYTE", "BYTE", "INT"}, step_decoded},
+};
+
+
+/* ---- Reading a line. */
 
 /* Splits a line at each space. Gives the number of words, or one more than the most if there are more. */
-static int split(char *line, char *words[MOST_WORDS])
+static size_t split(char *line, char *words[MOST_WORDS])
 {
-    int count = 0;
+    size_t count = 0;
     char *next = line;
     while (next != NULL) {
         if (count == MOST_WORDS)
@@ -37,8 +313,22 @@ static int whole(const char *word, int64_t low, int64_t high, int64_t *n)
     return low <= *n && *n <= high;
 }
 
-/* A float by its bits, as a decimal of at most 7 digits, or `nan`, `inf`, `-inf`. */
-static int number(const char *word, float *x)
+/* A decimal of at most 7 digits, with digits on both sides of a point. */
+static int decimal(const char *word, float *x)
+{
+    size_t sign = word[0] == '-';
+    size_t before = strspn(word + sign, "0123456789");
+    const char *point = word + sign + before;
+    size_t after = *point == '.' ? strspn(point + 1, "0123456789") : 0;
+    const char *end = *point == '.' ? point + 1 + after : point;
+    if (before < 1 || (*point == '.' && after < 1) || before + after > 7 || *end != '\0')
+        return 0;
+    *x = strtof(word, NULL);
+    return 1;
+}
+
+/* A float by its bits, as a decimal, or `nan`, `inf`, `-inf`. */
+static int single(const char *word, float *x)
 {
     if (strcmp(word, "nan") == 0)
         *x = NAN;
@@ -49,151 +339,81 @@ static int number(const char *word, float *x)
     else if (strlen(word) == 10 && strncmp(word, "0x", 2) == 0 && strspn(word + 2, "0123456789abcdef") == 8) {
         uint32_t bits = (uint32_t)strtoul(word, NULL, 16);
         memcpy(x, &bits, sizeof *x);
-    } else {
-        size_t sign = word[0] == '-';
-        size_t before = strspn(word + sign, "0123456789");
-        const char *point = word + sign + before;
-        size_t after = *point == '.' ? strspn(point + 1, "0123456789") : 0;
-        const char *end = *point == '.' ? point + 1 + after : point;
-        if (before < 1 || (*point == '.' && after < 1) || before + after > 7 || *end != '\0')
+    } else
+        return decimal(word, x);
+    return 1;
+}
+
+/* Whether a word is of this form; a number is kept. */
+static int fits(const char *word, const char *form, numbers *n)
+{
+    if (strcmp(form, "NUM") == 0)
+        return single(word, &n->floats[n->float_count++]);
+    for (size_t i = 0; i < sizeof kinds / sizeof kinds[0]; i++)
+        if (strcmp(form, kinds[i].name) == 0)
+            return whole(word, kinds[i].low, kinds[i].high, &n->wholes[n->whole_count++]);
+    return strcmp(word, form) == 0;
+}
+
+/* Whether the words of a line are of this form. */
+static int has_form(char *words[], size_t count, const char *const form[MOST_WORDS], numbers *n)
+{
+    size_t at = 0;
+    n->whole_count = n->float_count = 0;
+    for (size_t i = 0; i < count; i++) {
+        if (form[at] == NULL || !fits(words[i], form[at], n))
             return 0;
-        *x = strtof(word, NULL);
+        if (strcmp(form[at], REPEATED) != 0)
+            at++;
     }
-    return 1;
-}
-
-static void say_refused(uint32_t refusal)
-{
-    printf("refused %" PRIu32 "\n", refusal);
-}
-
-static void say_hundredths(royukezan_hundredths_answer a)
-{
-    if (a.refusal != ROYUKEZAN_ACCEPTED)
-        say_refused(a.refusal);
-    else
-        printf("hundredths %" PRId32 "\n", a.hundredths);
-}
-
-static void say_float(royukezan_float_answer a)
-{
-    uint32_t bits;
-    memcpy(&bits, &a.value, sizeof bits);
-    if (a.refusal != ROYUKEZAN_ACCEPTED)
-        say_refused(a.refusal);
-    else
-        printf("float 0x%08" PRIx32 "\n", bits);
-}
-
-static void say_sent(royukezan_sent_answer a)
-{
-    if (a.refusal != ROYUKEZAN_ACCEPTED)
-        say_refused(a.refusal);
-    else
-        printf("par %" PRIu32 " pan %" PRIu32 "\n", a.par, a.pan);
-}
-
-/* Sets the parameters from seven words of 0 to 255. */
-static int set_parameters(char *words[7], royukezan_power_parameters *p)
-{
-    int64_t n[7];
-    for (int i = 0; i < 7; i++)
-        if (!whole(words[i], 0, 255, &n[i]))
-            return 0;
-    *p = (royukezan_power_parameters){
-        .sqt = (uint32_t)n[0],
-        .paninit = (uint32_t)n[1],
-        .panmin = (uint32_t)n[2],
-        .panmax = (uint32_t)n[3],
-        .gainup = (uint32_t)n[4],
-        .gaindn = (uint32_t)n[5],
-        .mestep = (uint32_t)n[6],
-    };
-    return 1;
+    return form[at] == NULL || strcmp(form[at], REPEATED) == 0;
 }
 
 /* Makes the call of one line and writes its answer; 0 where the line is none of the calls. */
-static int answer(char *line, royukezan_power_record *r, royukezan_power_parameters *p)
+static int answer(session *s, char *line)
 {
     char *words[MOST_WORDS];
-    int count = split(line, words);
-    const char *call = words[0];
-    float x;
-    int64_t n, pan, par;
-
-    if (count == 2 && strcmp(call, "level") == 0 && number(words[1], &x))
-        say_hundredths(royukezan_level_to_hundredths(x));
-    else if (count == 2 && strcmp(call, "quality") == 0 && number(words[1], &x))
-        say_hundredths(royukezan_quality_to_hundredths(x));
-    else if (count == 3 && strcmp(call, "show") == 0 && strcmp(words[1], "level") == 0 && whole(words[2], INT32_MIN, INT32_MAX, &n))
-        say_float(royukezan_level_to_float((int32_t)n));
-    else if (count == 3 && strcmp(call, "show") == 0 && strcmp(words[1], "quality") == 0 && whole(words[2], INT32_MIN, INT32_MAX, &n))
-        say_float(royukezan_quality_to_float((int32_t)n));
-    else if (count == 8 && strcmp(call, "params") == 0 && set_parameters(words + 1, p))
-        puts("accepted");
-    else if (count == 2 && strcmp(call, "power") == 0 && strcmp(words[1], "start") == 0) {
-        uint32_t refusal = royukezan_power_start(r, *p);
-        if (refusal != ROYUKEZAN_ACCEPTED)
-            say_refused(refusal);
-        else
-            puts("accepted");
-    } else if (count == 3 && strcmp(call, "step") == 0 && strcmp(words[1], "failed") == 0 && whole(words[2], INT32_MIN, INT32_MAX, &n))
-        say_sent(royukezan_power_step_failed(r, *p, (int32_t)n));
-    else if (count == 4 && strcmp(call, "step") == 0 && whole(words[1], 0, 255, &pan) && whole(words[2], 0, 255, &par)
-             && whole(words[3], INT32_MIN, INT32_MAX, &n))
-        say_sent(royukezan_power_step_decoded(r, *p, (uint32_t)pan, (uint32_t)par, (int32_t)n));
-    else
-        return 0;
-    return 1;
+    numbers n;
+    size_t count = split(line, words);
+    for (size_t i = 0; count <= MOST_WORDS && i < sizeof calls / sizeof calls[0]; i++)
+        if (has_form(words, count, calls[i].form, &n)) {
+            calls[i].call(s, &n);
+            return 1;
+        }
+    return 0;
 }
 
-/* A record that is not well formed, which no session makes: refusal 9 before any other, the codes 0, and neither it nor its neighbours in
- * memory written. */
-static int damaged_is_refused(royukezan_power_record damaged, royukezan_power_parameters p)
+/* Reads a line without its newline, as far as there is room, and gives its whole length; -1 at the end of the file. */
+static long read_line(char line[LONGEST_LINE + 1])
 {
-    royukezan_power_record lent[3] = {{1, 2, 3, 200}, damaged, {4, 5, 6, 400}};
-    royukezan_power_record before[3];
-    memcpy(before, lent, sizeof before);
-    royukezan_sent_answer d = royukezan_power_step_decoded(&lent[1], p, 64, 64, INT32_MAX);
-    royukezan_sent_answer f = royukezan_power_step_failed(&lent[1], p, 0);
-    return d.refusal == ROYUKEZAN_RECORD_NOT_WELL_FORMED && d.par == 0 && d.pan == 0
-        && f.refusal == ROYUKEZAN_RECORD_NOT_WELL_FORMED && f.par == 0 && f.pan == 0
-        && memcmp(before, lent, sizeof before) == 0;
-}
-
-static int damaged_are_refused(void)
-{
-    static const royukezan_power_record damaged[] = {
-        {61, 0, 0, 0}, {0, 61, 0, 0}, {0, 0, 61, 0}, {0, 0, 0, 100}, {0, 0, 0, 24200}, {UINT32_MAX, UINT32_MAX, UINT32_MAX, UINT32_MAX},
-    };
-    royukezan_power_parameters good = {85, 30, 0, 60, 10, 10, 3};
-    royukezan_power_parameters bad = {127, 30, 0, 60, 10, 10, 3};
-    for (size_t i = 0; i < sizeof damaged / sizeof damaged[0]; i++)
-        if (!damaged_is_refused(damaged[i], good) || !damaged_is_refused(damaged[i], bad))
-            return 0;
-    return 1;
+    long length = 0;
+    int c;
+    while ((c = getchar()) != EOF && c != '\n') {
+        if (length < LONGEST_LINE)
+            line[length] = (char)c;
+        length++;
+    }
+    line[length < LONGEST_LINE ? length : LONGEST_LINE] = '\0';
+    return c == EOF && length == 0 ? -1 : length;
 }
 
 int main(void)
 {
-    char line[256];
-    royukezan_power_record r = {0, 0, 0, 0};
-    royukezan_power_parameters p = {0, 0, 0, 0, 0, 0, 0};
+    static session s;
+    char line[LONGEST_LINE + 1];
+    long length;
+    const char *wrong = beyond_sessions();
 
-    if (!damaged_are_refused()) {
-        fputs("modem: a record that is not well formed is not refused as it should be\n", stderr);
+    if (wrong != NULL) {
+        fprintf(stderr, "modem: %s\n", wrong);
         return 1;
     }
-    for (unsigned long at = 1; fgets(line, sizeof line, stdin) != NULL; at++) {
-        size_t end = strcspn(line, "\n");
-        int whole_line = line[end] == '\n' || feof(stdin);
-        line[end] = '\0';
-        if (whole_line && (end == 0 || line[0] == '#'))
+    for (unsigned long at = 1; (length = read_line(line)) >= 0; at++) {
+        if (length == 0 || line[0] == '#')
             continue;
-        if (!whole_line || !answer(line, &r, &p)) {
-            fprintf(stderr, "modem: line %lu is none of the calls\n", at);
-            return 1;
-        }
+        /* A line that is too long or holds a NUL is none of the calls. */
+        if ((size_t)length != strlen(line) || !answer(&s, line))
+            printf("error line %lu\n", at);
     }
-    return 0;
+    return ferror(stdin) || fflush(stdout) != 0;
 }

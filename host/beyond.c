@@ -1,0 +1,346 @@
+/* What no session reaches, tried through the archive: records that are not well formed, the calls that no line asks for, empty lists, and the
+ * header's names against the numbers of the archive. A damaged record is refused by every call with 9, whatever else is wrong, and is left or
+ * handed back as it was. */
+#include "beyond.h"
+
+#include <math.h>
+#include <string.h>
+
+#include "royukezan.h"
+
+#define LENGTH(array) (sizeof(array) / sizeof(array)[0])
+
+static const royukezan_power_parameters good = {85, 30, 0, 60, 10, 10, 3};
+static const royukezan_power_parameters bad = {127, 30, 0, 60, 10, 10, 3};
+
+static int is_9(uint32_t refusal)
+{
+    return refusal == ROYUKEZAN_RECORD_NOT_WELL_FORMED;
+}
+
+
+/* ---- The sweep. */
+
+/* Its fields leave no padding, so that here bytes may be compared. */
+static int same_sweep(const royukezan_sweep *a, const royukezan_sweep *b)
+{
+    return memcmp(a, b, sizeof *a) == 0;
+}
+
+static int filing_refused(const royukezan_sweep *damaged)
+{
+    royukezan_sweep lent = *damaged;
+    royukezan_sweep_outcome heard = royukezan_sweep_file_heard_by_value(*damaged, UINT16_MAX, NAN, 0.0f);
+    royukezan_sweep_outcome missed = royukezan_sweep_file_missed_by_value(*damaged, 310);
+    return is_9(heard.refusal) && same_sweep(&heard.sweep, damaged) && is_9(missed.refusal) && same_sweep(&missed.sweep, damaged)
+        && is_9(royukezan_sweep_file_heard(&lent, 310, -94.2f, 9.1f)) && is_9(royukezan_sweep_file_missed(&lent, UINT16_MAX))
+        && same_sweep(&lent, damaged);
+}
+
+static int sweep_refused(const royukezan_sweep *damaged)
+{
+    royukezan_next_answer next = royukezan_sweep_next(damaged);
+    royukezan_counts_answer counts = royukezan_sweep_counts(damaged);
+    royukezan_choice_answer choice = royukezan_choose(damaged, -1, NULL, 0);
+    return is_9(next.refusal) && next.next == 0 && next.channel == 0 && is_9(counts.refusal) && counts.visited == 0 && counts.heard == 0
+        && is_9(choice.refusal) && choice.choice == 0 && choice.channel == 0 && choice.tried == 0
+        && is_9(royukezan_sweep_check(damaged)) && filing_refused(damaged);
+}
+
+static void set_bit(uint64_t map[17], unsigned channel, int bit)
+{
+    if (bit)
+        map[channel / 64] |= UINT64_C(1) << channel % 64;
+}
+
+static int damaged_sweeps_refused(void)
+{
+    static const struct {
+        uint16_t channel;
+        int visited, heard;
+        int32_t level;
+    } damages[] = {
+        {100, 0, 1, 0}, /* heard only where visited */
+        {0, 1, 0, 0}, {1, 1, 0, 0}, {1087, 1, 0, 0}, {1087, 1, 1, 0}, /* no bit outside 2 to 1,086 */
+        {100, 0, 0, -1}, {100, 1, 0, -1}, {0, 0, 0, -1}, {1087, 0, 0, 1}, /* level 0 where not heard */
+        {100, 1, 1, 1}, {100, 1, 1, -15001}, {1086, 1, 1, INT32_MIN}, /* each level in -15,000 to 0 */
+    };
+    for (size_t i = 0; i < LENGTH(damages); i++) {
+        royukezan_sweep s = royukezan_sweep_fresh();
+        if (royukezan_sweep_file_heard(&s, 310, -94.2f, 9.1f) != ROYUKEZAN_ACCEPTED || royukezan_sweep_check(&s) != ROYUKEZAN_ACCEPTED)
+            return 0;
+        set_bit(s.visited, damages[i].channel, damages[i].visited);
+        set_bit(s.heard, damages[i].channel, damages[i].heard);
+        s.levels[damages[i].channel] = damages[i].level;
+        if (!sweep_refused(&s))
+            return 0;
+    }
+    return 1;
+}
+
+
+/* ---- The watch. */
+
+static int same_watch(const royukezan_watch *a, const royukezan_watch *b)
+{
+    int same = a->watched == b->watched;
+    for (size_t i = 0; i < LENGTH(a->tracks); i++)
+        same = same && a->tracks[i].channel == b->tracks[i].channel && a->tracks[i].count == b->tracks[i].count
+            && memcmp(a->tracks[i].levels, b->tracks[i].levels, sizeof a->tracks[i].levels) == 0;
+    return same;
+}
+
+static int watch_handed_back(const royukezan_watch *damaged)
+{
+    static const uint16_t list[] = {42, 42};
+    const royukezan_watch_outcome outcomes[] = {
+        royukezan_watch_start_by_value(*damaged, UINT16_MAX),
+        royukezan_watch_new_list_by_value(*damaged, list, LENGTH(list)),
+        royukezan_watch_move_to_by_value(*damaged, 118),
+        royukezan_watch_file_heard_by_value(*damaged, 42, NAN, 0.0f),
+        royukezan_watch_file_missed_by_value(*damaged, UINT16_MAX),
+    };
+    for (size_t i = 0; i < LENGTH(outcomes); i++)
+        if (!is_9(outcomes[i].refusal) || !same_watch(&outcomes[i].watch, damaged))
+            return 0;
+    return 1;
+}
+
+static int watch_refused(const royukezan_watch *damaged)
+{
+    royukezan_watch lent = *damaged;
+    royukezan_levels_answer levels = royukezan_watch_ask(damaged, 42);
+    royukezan_verdict_answer verdict = royukezan_watch_verdict(damaged, -1);
+    return is_9(levels.refusal) && levels.count == 0 && levels.mean == 0
+        && is_9(verdict.refusal) && verdict.verdict == 0 && verdict.channel == 0
+        && is_9(royukezan_watch_check(damaged)) && is_9(royukezan_watch_start(&lent, 310)) && is_9(royukezan_watch_new_list(&lent, NULL, 0))
+        && is_9(royukezan_watch_move_to(&lent, 42)) && is_9(royukezan_watch_file_heard(&lent, 42, -94.2f, 9.1f))
+        && is_9(royukezan_watch_file_missed(&lent, 42)) && same_watch(&lent, damaged) && watch_handed_back(damaged);
+}
+
+/* A watch with channel 310 serving, neighbour 42 with two levels and neighbour 118 with none. */
+static int sound_watch(royukezan_watch *w)
+{
+    static const uint16_t list[] = {42, 118};
+    uint32_t refusal = royukezan_watch_start(w, 310);
+    refusal |= royukezan_watch_new_list(w, list, LENGTH(list));
+    refusal |= royukezan_watch_file_heard(w, 42, -94.2f, 9.1f);
+    refusal |= royukezan_watch_file_heard(w, 42, -94.2f, 9.1f);
+    return refusal == ROYUKEZAN_ACCEPTED && royukezan_watch_check(w) == ROYUKEZAN_ACCEPTED;
+}
+
+static int damaged_watches_refused(void)
+{
+    static const struct {
+        size_t watched, track;
+        uint16_t channel;
+        size_t count, place;
+        int32_t level;
+    } damages[] = {
+        {8, 1, 42, 2, 0, -9420}, {SIZE_MAX, 1, 42, 2, 0, -9420}, /* more tracks than there are */
+        {2, 1, 42, 2, 0, -9420}, {0, 1, 42, 2, 0, -9420}, /* a track that is not in use and not all zeros */
+        {3, 5, 7, 0, 0, 0}, {3, 5, 0, 1, 0, 0}, {3, 5, 0, 0, 0, -1},
+        {3, 1, 1088, 2, 0, -9420}, {3, 1, 310, 2, 0, -9420}, {3, 1, 118, 2, 0, -9420}, /* a channel above 1,087; a repeat */
+        {3, 1, 42, 16, 0, -9420}, {3, 1, 42, SIZE_MAX, 0, -9420}, /* more levels than 15 */
+        {3, 1, 42, 2, 0, 1}, {3, 1, 42, 2, 1, -15001}, {3, 1, 42, 2, 2, -1}, /* a level out of range, or after the last */
+    };
+    for (size_t i = 0; i < LENGTH(damages); i++) {
+        royukezan_watch w = royukezan_watch_fresh();
+        if (!sound_watch(&w))
+            return 0;
+        w.watched = damages[i].watched;
+        w.tracks[damages[i].track].channel = damages[i].channel;
+        w.tracks[damages[i].track].count = damages[i].count;
+        w.tracks[damages[i].track].levels[damages[i].place] = damages[i].level;
+        if (!watch_refused(&w))
+            return 0;
+    }
+    return 1;
+}
+
+
+/* ---- The power record. */
+
+static int same_power(const royukezan_power_record *a, const royukezan_power_record *b)
+{
+    return a->panlast == b->panlast && a->parsave == b->parsave && a->panbasic == b->panbasic && a->increase == b->increase;
+}
+
+static int same_sent(royukezan_sent_answer a, royukezan_sent_answer b)
+{
+    return a.refusal == b.refusal && a.par == b.par && a.pan == b.pan;
+}
+
+/* Both forms of both steps, between neighbours in memory. Each answers this, and leaves or hands back the record as it was. */
+static int steps_refused(royukezan_power_record r, royukezan_power_parameters p, uint32_t codes, int32_t sqi, uint32_t refusal)
+{
+    const royukezan_sent_answer refused = {refusal, 0, 0};
+    const royukezan_power_record before[3] = {{1, 2, 3, 200}, r, {4, 5, 6, 400}};
+    royukezan_power_record lent[3] = {before[0], before[1], before[2]};
+    royukezan_sent_outcome decoded = royukezan_power_step_decoded_by_value(r, p, codes, codes, sqi);
+    royukezan_sent_outcome failed = royukezan_power_step_failed_by_value(r, p, sqi);
+    return same_sent(decoded.answer, refused) && same_power(&decoded.power, &r)
+        && same_sent(failed.answer, refused) && same_power(&failed.power, &r)
+        && same_sent(royukezan_power_step_decoded(&lent[1], p, codes, codes, sqi), refused)
+        && same_sent(royukezan_power_step_failed(&lent[1], p, sqi), refused)
+        && same_power(&lent[0], &before[0]) && same_power(&lent[1], &before[1]) && same_power(&lent[2], &before[2]);
+}
+
+static int damaged_power_refused(void)
+{
+    static const royukezan_power_record damaged[] = {
+        {61, 0, 0, 0}, {0, 61, 0, 0}, {0, 0, 61, 0}, {0, 0, 0, 100}, {0, 0, 0, 24200}, {UINT32_MAX, UINT32_MAX, UINT32_MAX, UINT32_MAX},
+    };
+    for (size_t i = 0; i < LENGTH(damaged); i++)
+        if (!is_9(royukezan_power_check(&damaged[i])) || !steps_refused(damaged[i], good, 20, 0, ROYUKEZAN_RECORD_NOT_WELL_FORMED)
+            || !steps_refused(damaged[i], bad, 64, INT32_MAX, ROYUKEZAN_RECORD_NOT_WELL_FORMED))
+            return 0;
+    return 1;
+}
+
+/* A start that is refused writes nothing; by value, it hands back a record of all zeros. */
+static int start_refused(void)
+{
+    const royukezan_power_record before = {1, 2, 3, 200}, zeros = {0, 0, 0, 0};
+    royukezan_power_record r = before;
+    royukezan_power_outcome o = royukezan_power_start_by_value(bad);
+    return royukezan_power_start(&r, bad) == ROYUKEZAN_PARAMETER_OUT_OF_RANGE && same_power(&r, &before)
+        && o.refusal == ROYUKEZAN_PARAMETER_OUT_OF_RANGE && same_power(&o.power, &zeros)
+        && steps_refused(before, bad, 64, INT32_MAX, ROYUKEZAN_PARAMETER_OUT_OF_RANGE)
+        && steps_refused(before, good, 20, INT32_MAX, ROYUKEZAN_READING_OUT_OF_RANGE);
+}
+
+/* A step by value and one on a lent record are the same step. */
+static int steps_agree(void)
+{
+    royukezan_power_record r = {0, 0, 0, 0}, started = {30, 30, 30, 0};
+    int agree = royukezan_power_start(&r, good) == ROYUKEZAN_ACCEPTED && same_power(&r, &started);
+    for (uint32_t i = 0; agree && i < 1000; i++) {
+        uint32_t pan = i * 7 % 64, par = i * 11 % 64;
+        int32_t sqi = (int32_t)(i * 7) - 3000;
+        int failed = i % 3 == 0;
+        royukezan_sent_outcome o = failed ? royukezan_power_step_failed_by_value(r, good, sqi)
+                                          : royukezan_power_step_decoded_by_value(r, good, pan, par, sqi);
+        royukezan_sent_answer a = failed ? royukezan_power_step_failed(&r, good, sqi)
+                                         : royukezan_power_step_decoded(&r, good, pan, par, sqi);
+        agree = a.refusal == ROYUKEZAN_ACCEPTED && same_sent(a, o.answer) && same_power(&r, &o.power)
+            && royukezan_power_check(&r) == ROYUKEZAN_ACCEPTED;
+    }
+    return agree;
+}
+
+
+/* ---- Readings that no line asks for, and empty lists. */
+
+static int read_back_gives(royukezan_hundredths_answer a, int32_t h, int in_range)
+{
+    if (in_range)
+        return a.refusal == ROYUKEZAN_ACCEPTED && a.hundredths == h;
+    return a.refusal == ROYUKEZAN_READING_OUT_OF_RANGE && a.hundredths == 0;
+}
+
+static int read_back_is_same(void)
+{
+    for (int32_t h = -15100; h <= 4100; h++)
+        if (!read_back_gives(royukezan_level_read_back(h), h, -15000 <= h && h <= 0)
+            || !read_back_gives(royukezan_quality_read_back(h), h, -3000 <= h && h <= 4000))
+            return 0;
+    return 1;
+}
+
+static int burst_is(royukezan_burst_answer a, uint32_t refusal, int32_t level, int32_t quality)
+{
+    return a.refusal == refusal && a.level == level && a.quality == quality;
+}
+
+static int bursts_are_read(void)
+{
+    return burst_is(royukezan_burst_to_hundredths(-100.125f, 0.125f), ROYUKEZAN_ACCEPTED, -10013, 12)
+        && burst_is(royukezan_burst_to_hundredths(-150.0f, 40.0f), ROYUKEZAN_ACCEPTED, -15000, 4000)
+        && burst_is(royukezan_burst_to_hundredths(-150.0f, NAN), ROYUKEZAN_READING_OUT_OF_RANGE, 0, 0)
+        && burst_is(royukezan_burst_to_hundredths(1.0f, 40.0f), ROYUKEZAN_READING_OUT_OF_RANGE, 0, 0);
+}
+
+/* An empty list drops the neighbours, and an empty string of outcomes is refused, also where no pointer comes with them. */
+static int empty_is_taken(void)
+{
+    royukezan_sweep s = royukezan_sweep_fresh();
+    royukezan_watch w = royukezan_watch_fresh();
+    return sound_watch(&w) && royukezan_watch_new_list(&w, NULL, 0) == ROYUKEZAN_ACCEPTED && w.watched == 1
+        && royukezan_watch_ask(&w, 42).refusal == ROYUKEZAN_NOT_WATCHED
+        && royukezan_choose(&s, 300, NULL, 0).refusal == ROYUKEZAN_OUTCOMES_FAULTY;
+}
+
+
+/* ---- The header's names. */
+
+/* A finished sweep in which one channel was heard. */
+static int swept(royukezan_sweep *s, uint16_t heard)
+{
+    uint32_t refusal = royukezan_sweep_file_heard(s, heard, -94.2f, 9.1f);
+    for (uint16_t channel = ROYUKEZAN_SWEEP_FIRST; channel <= ROYUKEZAN_SWEEP_LAST; channel++)
+        if (channel != heard)
+            refusal |= royukezan_sweep_file_missed(s, channel);
+    return refusal == ROYUKEZAN_ACCEPTED && royukezan_sweep_next(s).next == ROYUKEZAN_NEXT_DONE;
+}
+
+static int outcome_gives(const royukezan_sweep *s, uint8_t outcome, uint16_t choice)
+{
+    uint8_t outcomes[ROYUKEZAN_CHANNELS] = {0};
+    outcomes[310] = outcome;
+    royukezan_choice_answer a = royukezan_choose(s, 0, outcomes, sizeof outcomes);
+    return a.refusal == ROYUKEZAN_ACCEPTED && a.choice == choice && a.tried == 1
+        && a.channel == (choice == ROYUKEZAN_CHOICE_NO_BEAM ? 0 : 310);
+}
+
+static int outcomes_have_names(void)
+{
+    royukezan_sweep s = royukezan_sweep_fresh();
+    return swept(&s, 310) && outcome_gives(&s, ROYUKEZAN_OUTCOME_NOT_READ, ROYUKEZAN_CHOICE_READ)
+        && outcome_gives(&s, ROYUKEZAN_OUTCOME_SUITABLE, ROYUKEZAN_CHOICE_CAMP)
+        && outcome_gives(&s, ROYUKEZAN_OUTCOME_BARRED, ROYUKEZAN_CHOICE_NO_BEAM)
+        && outcome_gives(&s, ROYUKEZAN_OUTCOME_ACCESS_CLASS_NOT_ALLOWED, ROYUKEZAN_CHOICE_NO_BEAM)
+        && outcome_gives(&s, ROYUKEZAN_OUTCOME_OTHER_NETWORK, ROYUKEZAN_CHOICE_NO_BEAM)
+        && outcome_gives(&s, ROYUKEZAN_OUTCOME_UNREADABLE, ROYUKEZAN_CHOICE_NO_BEAM);
+}
+
+/* Each refusal once that is not tried above. */
+static int refusals_have_names(void)
+{
+    static const uint16_t list[ROYUKEZAN_LIST_LIMIT + 1] = {1, 2, 3, 4, 5, 6, 7};
+    static const uint8_t outcomes[ROYUKEZAN_CHANNELS];
+    royukezan_sweep s = royukezan_sweep_fresh();
+    royukezan_watch w = royukezan_watch_fresh();
+    return royukezan_sweep_file_missed(&s, ROYUKEZAN_SWEEP_FIRST - 1) == ROYUKEZAN_CHANNEL_OUT_OF_RANGE
+        && royukezan_sweep_file_missed(&s, ROYUKEZAN_SWEEP_LAST + 1) == ROYUKEZAN_CHANNEL_OUT_OF_RANGE
+        && royukezan_sweep_file_missed(&s, ROYUKEZAN_SWEEP_LAST) == ROYUKEZAN_ACCEPTED
+        && royukezan_sweep_file_missed(&s, ROYUKEZAN_SWEEP_LAST) == ROYUKEZAN_CHANNEL_VISITED
+        && royukezan_choose(&s, 300, outcomes, sizeof outcomes).refusal == ROYUKEZAN_SWEEP_UNFINISHED
+        && royukezan_watch_start(&w, ROYUKEZAN_CHANNELS) == ROYUKEZAN_CHANNEL_OUT_OF_RANGE
+        && royukezan_watch_start(&w, ROYUKEZAN_CHANNELS - 1) == ROYUKEZAN_ACCEPTED
+        && royukezan_watch_new_list(&w, list, ROYUKEZAN_LIST_LIMIT + 1) == ROYUKEZAN_LIST_FAULTY
+        && royukezan_watch_new_list(&w, list, ROYUKEZAN_LIST_LIMIT) == ROYUKEZAN_ACCEPTED;
+}
+
+const char *beyond_sessions(void)
+{
+    static const struct {
+        int (*holds)(void);
+        const char *wrong;
+    } tries[] = {
+        {damaged_sweeps_refused, "a sweep that is not well formed is not refused as it should be"},
+        {damaged_watches_refused, "a watch that is not well formed is not refused as it should be"},
+        {damaged_power_refused, "a power record that is not well formed is not refused as it should be"},
+        {start_refused, "a power start or step that is refused does not leave the record as it should"},
+        {steps_agree, "a power step by value is not the step on a lent record"},
+        {read_back_is_same, "a reading that is shown and read back is not the same"},
+        {bursts_are_read, "a heard burst is not read as it should be"},
+        {empty_is_taken, "an empty list or string is not taken as it should be"},
+        {outcomes_have_names, "an outcome byte does not give the choice that its name says"},
+        {refusals_have_names, "a refusal does not have the number that its name says"},
+    };
+    for (size_t i = 0; i < LENGTH(tries); i++)
+        if (!tries[i].holds())
+            return tries[i].wrong;
+    return NULL;
+}
