@@ -1,0 +1,143 @@
+//! The neighbour watch: the serving channel and up to six neighbours, their levels, and whether to stay or move.
+
+use crate::border::{self, WatchOutcome};
+use crate::readings::{Burst, Reading};
+use crate::refusal::{accepted, foreign, Refusal};
+
+/// How many levels of a channel count.
+pub const DEPTH: usize = 15;
+
+/// How many channels are watched at most: the serving channel and six neighbours.
+pub const ROOM: usize = 7;
+
+/// A channel under watch with its levels.
+#[derive(Clone, Copy, Debug, PartialEq, Eq)]
+#[repr(C)]
+pub struct Track {
+    /// 0 to 1,087.
+    pub channel: u16,
+    /// How many levels there are, 0 to 15.
+    pub count: usize,
+    /// In hundredths of a dBm, oldest first; 0 from the count on.
+    pub levels: [i32; DEPTH],
+}
+
+/// The watch record: the first `watched` tracks are the serving channel and the list, in this order.
+///
+/// It may be taken apart, kept and made again by its fields. Every call tests it first and refuses one that is not
+/// well formed with 9. Well formed: what some calls from a fresh watch leave. So channels differ and are in range,
+/// counts are at most 15, levels are in -15,000 to 0, and what is not used is 0.
+#[derive(Clone, Debug, PartialEq, Eq)]
+#[repr(C)]
+pub struct Watch {
+    /// How many tracks are in use, 0 to 7; 0 is an idle watch.
+    pub watched: usize,
+    /// The serving channel, then its neighbours; unused tracks are all zero.
+    pub tracks: [Track; ROOM],
+}
+
+/// The levels of a channel that count.
+#[derive(Clone, Copy, Debug, PartialEq, Eq)]
+pub struct Levels {
+    /// 0 to 15.
+    pub count: u32,
+    /// In hundredths of a dBm: the largest whole number not above sum / count; 0 for a count of 0.
+    pub mean: i32,
+}
+
+/// What to do about the serving channel.
+#[derive(Clone, Copy, Debug, PartialEq, Eq)]
+pub enum Verdict {
+    /// The serving channel has fewer than 15 levels.
+    Wait,
+    /// No neighbour is better by more than the hysteresis.
+    Stay,
+    /// This neighbour is the best of those that are; of equals it is the lowest channel.
+    MoveTo(u16),
+}
+
+impl Watch {
+    /// An idle watch: all zero.
+    pub fn fresh() -> Watch {
+        border::royukezan_watch_fresh()
+    }
+
+    /// Watches this channel alone, as the serving one, without levels; what was watched before is forgotten.
+    /// Refusals 9, 2.
+    #[inline]
+    pub fn start(&mut self, serving: u16) -> Result<(), Refusal> {
+        self.keep(border::royukezan_watch_start_by_value(self.clone(), serving))
+    }
+
+    /// Replaces the neighbours, by up to 6 channels in any order. One watched before and after keeps its levels.
+    /// Refusals 9, 5, 6.
+    #[inline]
+    pub fn new_list(&mut self, list: &[u16]) -> Result<(), Refusal> {
+        let (given, length) = (self.clone(), list.len());
+        // SAFETY: the pointer of a slice is aligned and not null, of an empty one too, and its channels are only
+        // read, during the call.
+        let outcome = unsafe { border::royukezan_watch_new_list_by_value(given, list.as_ptr(), length) };
+        self.keep(outcome)
+    }
+
+    /// Moves to a neighbour: it becomes serving, and the old serving channel takes its place in the list. Both keep
+    /// their levels. Refusals 9, 6.
+    #[inline]
+    pub fn move_to(&mut self, channel: u16) -> Result<(), Refusal> {
+        self.keep(border::royukezan_watch_move_to_by_value(self.clone(), channel))
+    }
+
+    /// Files a burst's result. Refusals 9, 6, 1.
+    #[inline]
+    pub fn file(&mut self, channel: u16, burst: Burst) -> Result<(), Refusal> {
+        match burst {
+            Burst::Heard(Reading { level, quality }) => self.file_heard(channel, level, quality),
+            Burst::Missed => self.file_missed(channel),
+        }
+    }
+
+    /// Files a heard burst, its level in dBm and its quality in dB: the level is added as the newest, and beyond 15
+    /// the oldest goes. Refusals 9, 6, 1.
+    #[inline]
+    pub fn file_heard(&mut self, channel: u16, level: f32, quality: f32) -> Result<(), Refusal> {
+        self.keep(border::royukezan_watch_file_heard_by_value(self.clone(), channel, level, quality))
+    }
+
+    /// Files a missed burst, which changes nothing. Refusals 9, 6.
+    #[inline]
+    pub fn file_missed(&mut self, channel: u16) -> Result<(), Refusal> {
+        self.keep(border::royukezan_watch_file_missed_by_value(self.clone(), channel))
+    }
+
+    /// The record that a call hands back; refused, it is the one that was given.
+    #[inline]
+    fn keep(&mut self, outcome: WatchOutcome) -> Result<(), Refusal> {
+        *self = outcome.watch;
+        accepted(outcome.refusal)
+    }
+
+    /// The count and the mean of a channel's levels. Refusals 9, 6.
+    #[inline]
+    pub fn ask(&self, channel: u16) -> Result<Levels, Refusal> {
+        let answer = border::royukezan_watch_ask_by_value(self.clone(), channel);
+        accepted(answer.refusal).map(|()| Levels { count: answer.count, mean: answer.mean })
+    }
+
+    /// Wait, stay or move, at a hysteresis of 0 to 6,000 hundredths of a dB. Refusals 9, 7, 6.
+    #[inline]
+    pub fn verdict(&self, hysteresis: i32) -> Result<Verdict, Refusal> {
+        let answer = border::royukezan_watch_verdict_by_value(self.clone(), hysteresis);
+        accepted(answer.refusal).map(|()| match answer.verdict {
+            1 => Verdict::Wait,
+            2 => Verdict::Stay,
+            3 => Verdict::MoveTo(answer.channel),
+            other => foreign(other.into()),
+        })
+    }
+
+    /// Whether the record is well formed. Refusal 9.
+    #[inline]
+    pub fn check(&self) -> Result<(), Refusal> {
+        accepted(border::royukezan_watch_check_by_value(self.clone()))
+    }
+}

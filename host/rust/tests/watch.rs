@@ -1,0 +1,207 @@
+//! The watch through the archive: document 01's checked examples and wrong turns, the refusals, and damaged records.
+
+mod common;
+
+use royukezan::watch::{Levels, Track, DEPTH, ROOM};
+use royukezan::{Burst, Refusal, Verdict, Watch};
+
+fn watching(serving: u16, list: &[u16]) -> Watch {
+    let mut watch = Watch::fresh();
+    assert_eq!(watch.start(serving), Ok(()));
+    assert_eq!(watch.new_list(list), Ok(()));
+    watch
+}
+
+/// Files a level, in dBm, so many times.
+fn file(watch: &mut Watch, channel: u16, level: f32, times: usize) {
+    for _ in 0..times {
+        assert_eq!(watch.file_heard(channel, level, 10.0), Ok(()));
+    }
+}
+
+fn track(channel: u16, filed: &[i32]) -> Track {
+    let mut levels = [0; DEPTH];
+    levels[..filed.len()].copy_from_slice(filed);
+    Track { channel, count: filed.len(), levels }
+}
+
+/// A record made by hand.
+fn made(tracks: &[Track]) -> Watch {
+    let mut watch = Watch { watched: tracks.len(), tracks: [track(0, &[]); ROOM] };
+    watch.tracks[..tracks.len()].copy_from_slice(tracks);
+    watch
+}
+
+#[test]
+fn two_levels_and_their_mean() {
+    let mut watch = watching(5, &[]);
+    assert_eq!(watch.ask(5), Ok(Levels { count: 0, mean: 0 }));
+    file(&mut watch, 5, -0.01, 1);
+    file(&mut watch, 5, -0.02, 1);
+    assert_eq!(watch.ask(5), Ok(Levels { count: 2, mean: -2 }));
+}
+
+#[test]
+fn wait_stay_and_move() {
+    let mut watch = watching(10, &[20]);
+    file(&mut watch, 10, -100.0, 14);
+    file(&mut watch, 20, -97.0, 15);
+    assert_eq!(watch.verdict(299), Ok(Verdict::Wait));
+    file(&mut watch, 10, -100.0, 1);
+    assert_eq!(watch.verdict(300), Ok(Verdict::Stay));
+    assert_eq!(watch.verdict(299), Ok(Verdict::MoveTo(20)));
+}
+
+#[test]
+fn levels_stay_with_their_channel() {
+    let mut watch = watching(10, &[20, 30, 40]);
+    file(&mut watch, 20, -90.0, 2);
+    file(&mut watch, 40, -80.0, 3);
+    assert_eq!(watch.new_list(&[40, 50, 20]), Ok(()));
+    assert_eq!(watch.ask(20), Ok(Levels { count: 2, mean: -9_000 }));
+    assert_eq!(watch.ask(40), Ok(Levels { count: 3, mean: -8_000 }));
+    assert_eq!(watch.ask(50), Ok(Levels { count: 0, mean: 0 }));
+    assert_eq!(watch.ask(30), Err(Refusal::NotWatched));
+    // A dropped one has lost its levels when it comes again.
+    assert_eq!(watch.new_list(&[20]), Ok(()));
+    assert_eq!(watch.new_list(&[20, 40]), Ok(()));
+    assert_eq!(watch.ask(40), Ok(Levels { count: 0, mean: 0 }));
+    assert_eq!(watch.move_to(20), Ok(()));
+    let told = made(&[track(20, &[-9_000, -9_000]), track(10, &[]), track(40, &[])]);
+    assert_eq!(watch, told);
+}
+
+#[test]
+fn equal_sums_go_to_the_lowest_channel() {
+    for list in [[20, 30, 40], [40, 30, 20], [30, 40, 20]] {
+        let mut watch = watching(10, &list);
+        for (channel, level) in [(10, -100.0), (20, -90.01), (30, -90.0), (40, -90.0)] {
+            file(&mut watch, channel, level, 15);
+        }
+        assert_eq!(watch.verdict(0), Ok(Verdict::MoveTo(30)));
+    }
+}
+
+#[test]
+fn the_oldest_level_goes() {
+    let mut watch = watching(0, &[1_087]);
+    file(&mut watch, 1_087, -1.0, 1);
+    file(&mut watch, 1_087, -2.0, 15);
+    assert_eq!(watch.ask(1_087), Ok(Levels { count: 15, mean: -200 }));
+    let before = watch.clone();
+    assert_eq!(watch.file_missed(1_087), Ok(()));
+    assert_eq!(watch.file(0, Burst::Missed), Ok(()));
+    assert_eq!(watch, before);
+}
+
+#[test]
+fn a_record_that_was_kept_is_given_again() {
+    let mut kept = made(&[track(10, &[-10_000; 15]), track(20, &[-9_700; 15])]);
+    assert_eq!(kept.check(), Ok(()));
+    assert_eq!(kept.verdict(299), Ok(Verdict::MoveTo(20)));
+    assert_eq!(kept.file(20, Burst::heard(-97.15, 8.0)), Ok(()));
+    assert_eq!(kept.ask(20), Ok(Levels { count: 15, mean: -9_701 }));
+    assert_eq!(kept.start(20), Ok(()));
+    assert_eq!(kept, made(&[track(20, &[])]));
+    assert_eq!(Watch::fresh(), made(&[]));
+}
+
+/// Each call on this record is refused so, and leaves it as it was.
+fn refused(watch: &Watch, calls: &[(common::Call<Watch>, Refusal)]) {
+    for (at, (call, told)) in calls.iter().enumerate() {
+        let mut given = watch.clone();
+        assert_eq!(call(&mut given), Err(*told), "call {at}");
+        assert_eq!(&given, watch, "call {at}");
+    }
+}
+
+#[test]
+fn refusals_of_an_idle_watch() {
+    use Refusal::{ChannelOutOfRange, ListFaulty, NotWatched, ParameterOutOfRange};
+    refused(
+        &Watch::fresh(),
+        &[
+            (|w| w.start(1_088), ChannelOutOfRange),
+            (|w| w.new_list(&[1_088]), ListFaulty),
+            (|w| w.new_list(&[]), NotWatched),
+            (|w| w.new_list(&[0]), NotWatched),
+            (|w| w.move_to(0), NotWatched),
+            (|w| w.file_heard(0, f32::NAN, 0.0), NotWatched),
+            (|w| w.file_missed(0), NotWatched),
+            (|w| w.ask(0).map(drop), NotWatched),
+            (|w| w.verdict(-1).map(drop), ParameterOutOfRange),
+            (|w| w.verdict(6_000).map(drop), NotWatched),
+        ],
+    );
+}
+
+#[test]
+fn refusals_come_in_their_order() {
+    use Refusal::{ChannelOutOfRange, ListFaulty, NotWatched, ParameterOutOfRange, ReadingOutOfRange};
+    let mut watch = watching(10, &[20, 30]);
+    file(&mut watch, 20, -90.0, 3);
+    refused(
+        &watch,
+        &[
+            (|w| w.start(u16::MAX), ChannelOutOfRange),
+            (|w| w.new_list(&[1, 2, 3, 4, 5, 6, 7]), ListFaulty),
+            (|w| w.new_list(&[1, 2, 1]), ListFaulty),
+            (|w| w.new_list(&[1, 10]), ListFaulty),
+            (|w| w.new_list(&[1, 1_088]), ListFaulty),
+            (|w| w.move_to(10), NotWatched),
+            (|w| w.move_to(40), NotWatched),
+            (|w| w.file_heard(40, f32::NAN, f32::NAN), NotWatched),
+            (|w| w.file_heard(20, -150.5, 10.0), ReadingOutOfRange),
+            (|w| w.file_heard(10, -90.0, f32::NAN), ReadingOutOfRange),
+            (|w| w.file_missed(65_535), NotWatched),
+            (|w| w.ask(40).map(drop), NotWatched),
+            (|w| w.verdict(6_001).map(drop), ParameterOutOfRange),
+            (|w| w.verdict(i32::MIN).map(drop), ParameterOutOfRange),
+        ],
+    );
+}
+
+const DAMAGES: [fn(&mut Watch); 13] = [
+    |w| w.watched = 8,
+    |w| w.watched = usize::MAX,
+    // A track beyond those in use is not all zero.
+    |w| w.watched = 0,
+    |w| w.watched = 2,
+    |w| w.tracks[3].channel = 7,
+    |w| w.tracks[6].levels[14] = -1,
+    |w| w.tracks[4].count = 1,
+    // A repeat, and a channel that is none.
+    |w| w.tracks[1].channel = 10,
+    |w| w.tracks[2].channel = 1_088,
+    // More levels than there is room for, one beyond the count, one that is none.
+    |w| w.tracks[0].count = 16,
+    |w| w.tracks[1].count = 2,
+    |w| w.tracks[1].levels[0] = -15_001,
+    |w| w.tracks[1].levels[2] = 1,
+];
+
+#[test]
+fn damaged_records_are_refused_first() {
+    let mut watch = watching(10, &[20, 30]);
+    file(&mut watch, 20, -90.0, 3);
+    common::all_refused(
+        &watch,
+        &DAMAGES,
+        &[
+            |w| w.check(),
+            |w| w.start(1_088),
+            |w| w.start(10),
+            |w| w.new_list(&[1_088]),
+            |w| w.new_list(&[]),
+            |w| w.move_to(40),
+            |w| w.move_to(20),
+            |w| w.file_heard(40, f32::NAN, f32::NAN),
+            |w| w.file_heard(10, -90.0, 10.0),
+            |w| w.file_missed(40),
+            |w| w.ask(40).map(drop),
+            |w| w.ask(10).map(drop),
+            |w| w.verdict(-1).map(drop),
+            |w| w.verdict(300).map(drop),
+        ],
+    );
+}
