@@ -38,7 +38,7 @@
  * - While a call on a record runs, nobody else writes that record, and where the call may write it nobody else reads it. Calls on different
  *   records may run side by side, in threads or interrupts.
  * - The floating-point environment is the default one: rounding to nearest, exceptions masked, and neither flush-to-zero nor
- *   denormals-are-zero. Linking with gcc -ffast-math turns the last two on, and the smallest float above 0 is then accepted as a level: do not.
+ *   denormals-are-zero. Linking with gcc -ffast-math can turn the last two on; the smallest float above 0 is then accepted as a level.
  * - The header is the archive's own. Layouts are asserted below at compile time; the archive cannot be asked.
  * - Records are compared by their fields and not by memcmp: what the padding bytes of a result hold is not fixed.
  * - The C library's memcpy, memmove and memset are there, or a freestanding host's own. The archive needs nothing else.
@@ -61,7 +61,7 @@ extern "C" {
 #define ROYUKEZAN_LIST_LIMIT 6    /* the most neighbours in a list */
 #define ROYUKEZAN_LEVELS 15       /* the most levels that a watched channel keeps */
 
-/* The refusal numbers: each is given exactly when. Several at once: 9, 8, 7, 2, 5, 6, 3, 4, 1. */
+/* The refusal numbers, each given exactly when what stands beside it holds. Several at once: 9, 8, 7, 2, 5, 6, 3, 4, 1. */
 enum royukezan_refusal {
     ROYUKEZAN_ACCEPTED = 0,
     ROYUKEZAN_READING_OUT_OF_RANGE = 1,   /* a level or quality, as a float or in hundredths, is outside its range */
