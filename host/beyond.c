@@ -230,7 +230,7 @@ static int steps_agree(void)
 }
 
 
-/* ---- Readings that no line asks for, and empty lists. */
+/* ---- Readings that no line asks for, fresh records, and empty lists. */
 
 static int read_back_gives(royukezan_hundredths_answer a, int32_t h, int in_range)
 {
@@ -259,6 +259,16 @@ static int bursts_are_read(void)
         && burst_is(royukezan_burst_to_hundredths(-150.0f, 40.0f), ROYUKEZAN_ACCEPTED, -15000, 4000)
         && burst_is(royukezan_burst_to_hundredths(-150.0f, NAN), ROYUKEZAN_READING_OUT_OF_RANGE, 0, 0)
         && burst_is(royukezan_burst_to_hundredths(1.0f, 40.0f), ROYUKEZAN_READING_OUT_OF_RANGE, 0, 0);
+}
+
+/* A sweep and a watch of all zeros are fresh ones. */
+static int fresh_is_zero(void)
+{
+    static const royukezan_sweep zero_sweep;
+    static const royukezan_watch zero_watch;
+    royukezan_sweep s = royukezan_sweep_fresh();
+    royukezan_watch w = royukezan_watch_fresh();
+    return same_sweep(&s, &zero_sweep) && same_watch(&w, &zero_watch);
 }
 
 /* An empty list drops the neighbours, and an empty string of outcomes is refused, also where no pointer comes with them. */
@@ -335,6 +345,7 @@ const char *beyond_sessions(void)
         {steps_agree, "a power step by value is not the step on a lent record"},
         {read_back_is_same, "a reading that is shown and read back is not the same"},
         {bursts_are_read, "a heard burst is not read as it should be"},
+        {fresh_is_zero, "a fresh sweep or watch is not all zeros"},
         {empty_is_taken, "an empty list or string is not taken as it should be"},
         {outcomes_have_names, "an outcome byte does not give the choice that its name says"},
         {refusals_have_names, "a refusal does not have the number that its name says"},

@@ -1,5 +1,5 @@
-/* The link control library of GMR-1 terminals for C hosts: readings, the band sweep, the choice of a beam, the neighbour watch and the
- * power steps. README.md explains the words of the field, and the paper of rules whose refusal numbers stand below.
+/* The link control library of GMR-1 terminals for C and C++ hosts: readings, the band sweep, the choice of a beam, the neighbour watch and the
+ * power steps. The library's README.md explains the words of the field, and document 01, the paper of rules whose refusal numbers stand below.
  *
  * Link libroyukezan.a, which `rt staticlib royukezan` proves and writes into target/staticlib/, for x86-64 with the System V calling
  * convention (Linux). `host/install PREFIX` puts the header, the archive and a file for pkg-config under a prefix.
@@ -19,8 +19,8 @@
  * they store the same numbers again.
  *
  * Answers. A call that gives no value answers the refusal number alone, 0 for accepted. Every other answer is a struct: first the refusal
- * number, then the values, 0 when refused. Every value of every argument is taken, and every call ends. The functions call nothing of the
- * host, allocate nothing and keep nothing between calls.
+ * number, then the values, 0 when refused. Every value of every argument is taken, and every call ends. The functions allocate nothing and
+ * keep nothing between calls.
  *
  * Units. A level or quality as a float is in dBm or dB; in an int32_t it is in whole hundredths of a dB, and so are a margin, a hysteresis
  * and an SQI. PAN and PAR are codes, by 0.4 dB.
@@ -38,7 +38,7 @@
  * - While a call on a record runs, nobody else writes that record, and where the call may write it nobody else reads it. Calls on different
  *   records may run side by side, in threads or interrupts.
  * - The floating-point environment is the default one: rounding to nearest, exceptions masked, and neither flush-to-zero nor
- *   denormals-are-zero. With gcc, linking with -ffast-math can turn the last two on: do not.
+ *   denormals-are-zero. Linking with gcc -ffast-math can turn the last two on; the smallest float above 0 is then accepted as a level.
  * - The header is the archive's own. Layouts are asserted below at compile time; the archive cannot be asked.
  * - Records are compared by their fields and not by memcmp: what the padding bytes of a result hold is not fixed.
  * - The C library's memcpy, memmove and memset are there, or a freestanding host's own. The archive needs nothing else.
@@ -61,7 +61,7 @@ extern "C" {
 #define ROYUKEZAN_LIST_LIMIT 6    /* the most neighbours in a list */
 #define ROYUKEZAN_LEVELS 15       /* the most levels that a watched channel keeps */
 
-/* The refusal numbers: each is given exactly when. Several at once: 9, 8, 7, 2, 5, 6, 3, 4, 1. */
+/* The refusal numbers, each given exactly when what stands beside it holds. Several at once: 9, 8, 7, 2, 5, 6, 3, 4, 1. */
 enum royukezan_refusal {
     ROYUKEZAN_ACCEPTED = 0,
     ROYUKEZAN_READING_OUT_OF_RANGE = 1,   /* a level or quality, as a float or in hundredths, is outside its range */
@@ -92,8 +92,8 @@ enum royukezan_outcome {
 };
 
 
-/* ---- Records. The host keeps them between calls and need not look into them. One of all zeros is well formed, a fresh sweep and a fresh watch
- * among them: a static record needs no royukezan_.._fresh. */
+/* ---- Records. The host keeps them between calls and need not look into them. One of all zeros is well formed; a sweep or a watch of all zeros
+ * is a fresh one, so that a static record needs no royukezan_.._fresh. */
 
 /* A band sweep. Well formed: heard only where visited, no bit outside 2 to 1,086, level 0 where not heard, each level in -15,000 to 0. */
 typedef struct royukezan_sweep {
@@ -111,8 +111,8 @@ typedef struct royukezan_track {
 
 /* A watch. Well formed: exactly when some sequence of calls, from a fresh watch, leaves that record. */
 typedef struct royukezan_watch {
-    size_t watched;                                    /* how many tracks are in use; 0: the watch is idle */
-    royukezan_track tracks[1 + ROYUKEZAN_LIST_LIMIT];  /* the serving channel, then the neighbours in the list's order */
+    size_t watched;                                   /* how many tracks are in use; 0: the watch is idle */
+    royukezan_track tracks[1 + ROYUKEZAN_LIST_LIMIT]; /* the serving channel, then the neighbours in the list's order */
 } royukezan_watch;
 
 /* The power parameters, as codes. They are given at the start and again at every step; the record does not hold them. */
@@ -175,7 +175,7 @@ typedef struct royukezan_choice_answer {
     uint32_t refusal;
     uint16_t choice;  /* ROYUKEZAN_CHOICE_.. */
     uint16_t channel; /* where to camp, or what to read next; 0 for no beam */
-    uint32_t tried;   /* the channel's place in the search order, from 1; for no beam, how many beams lie within the margin */
+    uint32_t tried;   /* the channel's place in the search order, from 1; for no beam, how many channels lie within the margin */
 } royukezan_choice_answer;
 
 /* The levels of a watched channel. */
@@ -401,9 +401,9 @@ static inline uint32_t royukezan_sweep_check(const royukezan_sweep *s)
 
 /* ---- The choice. */
 
-/* Where to camp, or what to read next, over a finished sweep: the first heard channel by falling level, equal levels by rising channel number,
- * that lies at most the margin, 0 to 6,000 hundredths, below the strongest and is suitable or not read yet. `outcomes` are 1,088 bytes
- * ROYUKEZAN_OUTCOME_.., one for each channel number. Writes nothing. Refusals 9, 8, 7, 4. */
+/* The choice over a finished sweep: the first heard channel by falling level, equal levels by rising channel number, that lies at most the
+ * margin, 0 to 6,000 hundredths, below the strongest and is suitable (camp there) or not read yet (read it next); no beam where there is none.
+ * `outcomes` are 1,088 bytes ROYUKEZAN_OUTCOME_.., one for each channel number. Writes nothing. Refusals 9, 8, 7, 4. */
 static inline royukezan_choice_answer royukezan_choose(const royukezan_sweep *s, int32_t margin, const uint8_t *outcomes, size_t length)
 {
     const uint8_t none = 0;
@@ -472,8 +472,9 @@ static inline royukezan_levels_answer royukezan_watch_ask(const royukezan_watch 
     return royukezan_watch_ask_by_value(*w, channel);
 }
 
-/* Stay, move to the best neighbour, or wait while the serving channel has fewer than 15 levels. A neighbour counts if it has 15 levels and is
- * better by more than the hysteresis, 0 to 6,000 hundredths. Writes nothing. Refusals 9, 7, 6. */
+/* Wait while the serving channel has fewer than 15 levels; else move to the best neighbour that counts, or stay where none does. One counts if
+ * it has 15 levels and their sum exceeds the serving channel's by more than 15 times the hysteresis, 0 to 6,000 hundredths; the best has the
+ * greatest sum, and the lowest channel number among equals. Writes nothing. Refusals 9, 7, 6. */
 static inline royukezan_verdict_answer royukezan_watch_verdict(const royukezan_watch *w, int32_t hysteresis)
 {
     return royukezan_watch_verdict_by_value(*w, hysteresis);
