@@ -71,7 +71,8 @@ float-arg f = record { row = FloatOf f; ty = tyFloat f; val = vfloat f; tells = 
 abbrev pub struct-arg : (S : Declared) → LL.Laws S → Plains (fields S) → ((x : S .D) → Last (row S .exit yes) x) → ((x : S .D) (f : Last (row S .exit yes) x) → left (row S .exit yes) x f ≡ ftrue) → Arg
 struct-arg S L pl la si = record { row = row S; ty = layout (shape S); val = LL.val S L; tells = LL.tells S L; typed = λ 𝓤 H A W x is. LL.lawful S L 𝓤 H A W .typed x _ is .0; makes = λ 𝓤 H A W. LL.makes S pl 𝓤 H A; last = la; silent = si }
 
-abbrev pub enum-arg : (E : ED.Declared) → EL.Laws E → Plainss (ED.variants E) → Few (ED.shape E) → ((x : E .D) → Last (ED.row E .exit yes) x) → ((x : E .D) (f : Last (ED.row E .exit yes) x) → left (ED.row E .exit yes) x f ≡ ftrue) → Arg
+abbrev pub enum-arg : (E : ED.Declared) → EL.Laws E → Plainss (ED.variants E) → Few (ED.shape E) → ((x : E .D) → Last (ED.row E .exit yes) x)
+    → ((x : E .D) (f : Last (ED.row E .exit yes) x) → left (ED.row E .exit yes) x f ≡ ftrue) → Arg
 enum-arg E L pl few la si = record { row = ED.row E; ty = lone (ED.row E .mir); val = EL.val E L; tells = EL.tells E L; typed = λ 𝓤 H A W x is. EL.lawful E L 𝓤 H A W few .typed x _ is .0; makes = λ 𝓤 H A W. EL.makes E pl 𝓤 H A; last = la; silent = si }
 
 -- ---- a list of them
@@ -168,25 +169,23 @@ module _ (S : Declared) where
 
 -- one of its fields: its number, and where it lies. Of any declared struct, `at` is (d, refl) with the field's offset d, `is` is `λ s. refl`, and
 -- `owed` the field's part of `LL.owed`
-pub record Holds (S : Declared) (S′ : LL.Laws S) (X : Arg) : Type 2 where
+pub record Holds (S : Declared) (S′ : LL.Laws S) (T : RattleType) (τ : Ty) (val : T .Denot → Val) : Type 2 where
   pub number : ℕ
-  pub get : S .D → X .row .Denot
-  pub at : (d : ℕ) × (fieldAt 0 (fieldTys S) number ≡ some (X .ty, d))
-  pub is : (s : S .D) → getV (fieldVals S S′ s) number ≡ X .val (get s)
-  pub owed : (s : S .D) (v : Val) → Is (row S) s (v ∷ []) → Is (X .row) (get s) (X .val (get s) ∷ [])
+  pub get : S .D → T .Denot
+  pub at : (d : ℕ) × (fieldAt 0 (fieldTys S) number ≡ some (τ, d))
+  pub is : (s : S .D) → getV (fieldVals S S′ s) number ≡ val (get s)
+  pub owed : (s : S .D) (v : Val) → Is (row S) s (v ∷ []) → Is T (get s) (val (get s) ∷ [])
 
 -- the types of a function over a lent record R that answers A°: its callee gives S, which holds both
 pub record Lending : Type 2 where
   pub R : Declared
   pub R′ : LL.Laws R
   pub R-plain : Plains (fields R)
-  pub R-last : (x : R .D) → Last (row R .exit yes) x
-  pub R-silent : (x : R .D) (f : Last (row R .exit yes) x) → left (row R .exit yes) x f ≡ ftrue
   pub A° : Arg
   pub S : Declared
   pub S′ : LL.Laws S
-  pub held : Holds S S′ (struct-arg R R′ R-plain R-last R-silent)
-  pub told : Holds S S′ A°
+  pub held : Holds S S′ (row R) (layout (shape R)) (LL.val R R′)
+  pub told : Holds S S′ (A° .row) (A° .ty) (A° .val)
 
 -- ---- the two signatures, and contracts of one fact each: what the callee says of the s that it gives, and what the function tells of its
 -- answer and of the record at exit
@@ -236,14 +235,16 @@ module _ (L : Lending) (Xs : List Arg) (Says : Saying L Xs) (Tells : Telling L X
 
   -- what is known of a result v of the callee: it is of s, which the callee says
   abbrev Known-of : L .R .D → Denots (Rows 0 tt Xs) → Val → L .S .D → Type 0
-  Known-of h a v s = Got (L .R) τA (L .S .name) (fieldTys (L .S)) (L .held .number) (L .told .number) #callee (L .R′) v (fieldVals (L .S) (L .S′) s) (L .held .get s) (vA s) × (Says h a s × Is (L .A° .row) (L .told .get s) (vA s ∷ []))
+  Known-of h a v s = Got (L .R) τA (L .S .name) (fieldTys (L .S)) (L .held .number) (L .told .number) #callee (L .R′) v (fieldVals (L .S) (L .S′) s) (L .held .get s) (vA s)
+      × (Says h a s × Is (L .A° .row) (L .told .get s) (vA s ∷ []))
 
   module _ (h : L .R .D) (a : Denots (Rows 0 tt Xs)) (are : Known 0 tt Xs a) where
     abbrev to-callee : callee .Ghost
     to-callee = ((tt, tt, tt, (h, a), (vR h ∷ [], valss (Rows 0 tt Xs) (spells 0 tt Xs) a)), tt)
 
     asks : Is (row (L .R)) h (vR h ∷ []) → ent 𝓤 (sem 𝓤 H A ftrue) (callee .pre to-callee)
-    asks isR = qed W (‵ ftrue ∷ []) ∵ also ! (id⊢ 𝓤 (emp 𝓤)) $ use0 W (‵ (owns (Rows 0 tt Xs) a (valss (Rows 0 tt Xs) (spells 0 tt Xs) a))) (owns-make 𝓤 H A (Rows 0 tt Xs) (Ises (Rows 0 tt Xs)) (makes-all 0 tt 𝓤 H A W Xs) a _ are) $
+    asks isR = qed W (‵ ftrue ∷ []) ∵ also ! (id⊢ 𝓤 (emp 𝓤)) $
+        use0 W (‵ (owns (Rows 0 tt Xs) a (valss (Rows 0 tt Xs) (spells 0 tt Xs) a))) (owns-make 𝓤 H A (Rows 0 tt Xs) (Ises (Rows 0 tt Xs)) (makes-all 0 tt 𝓤 H A W Xs) a _ are) $
         owned ! (row (L .R)) (Is (row (L .R))) (LL.makes (L .R) (L .R-plain) 𝓤 H A) h (vR h ∷ []) isR $ fjoin ! $ move ! (1 ∷ 0 ∷ []) $ done !
 
     is-known : (v : Val) (s : L .S .D) → Is (row (L .S)) s (v ∷ []) → Says h a s → Known-of h a v s
@@ -280,13 +281,16 @@ module _ (L : Lending) (Xs : List Arg) (Says : Saying L Xs) (Tells : Telling L X
     a₀ = carry κs Xs (a .1)
 
     exits : (s : L .S .D) → Says (now (a .0)) a₀ s × Is (L .A° .row) (L .told .get s) (vA s ∷ [])
-        → ent 𝓤 (sep 𝓤 (A .obs (name (a .0)) (row (L .R) .coded .code (L .held .get s))) (sep 𝓤 (A .bor (κs .0) (Body (mem (row (L .R))) (a .0 .ptr .0) (a .0 .ptr .1) (name (a .0)))) (A .lft (κs .0) (qs .0)))) (walkOf 𝓤 H A own stayed (telling L Xs 𝓤 Tells) .post at-own (vA s))
+        → ent 𝓤 (sep 𝓤 (A .obs (name (a .0)) (row (L .R) .coded .code (L .held .get s)))
+        (sep 𝓤 (A .bor (κs .0) (Body (mem (row (L .R))) (a .0 .ptr .0) (a .0 .ptr .1) (name (a .0)))) (A .lft (κs .0) (qs .0))))
+        (walkOf 𝓤 H A own stayed (telling L Xs 𝓤 Tells) .post at-own (vA s))
     exits s e =
         qed W (‵ (fobs (name (a .0)) (row (L .R) .coded .code (L .held .get s))) ∷ ‵ (fbor (κs .0) (Body (mem (row (L .R))) (a .0 .ptr .0) (a .0 .ptr .1) (name (a .0)))) ∷ ‵ (flft (κs .0) (qs .0)) ∷ []) ∵
         suffices ! _ (ends-at 𝓤 H A own stayed (telling L Xs 𝓤 Tells) W at-own (vA s) (L .told .get s) (L .held .get s, fins κs Xs (a .1)) (tt, fit-all κs Xs (a .1))) $
         also ! (factI 𝓤 _ (emp 𝓤) (tells (now (a .0)) a₀ s (e .0))) $ nothing ! $ move ! (3 ∷ 0 ∷ []) $ join ! $ frame ! $
         feqI ! (List Val) (ptr-vals (a .0)) (ptr-vals (a .0)) refl $ fjoin3 ! $
-        use0 W (‵ (hasOf κs (slots 1 Xs) (all yes (slots 1 Xs)) (stays Xs) (a .1) (fins κs Xs (a .1)) (valss (Rows 1 κs Xs) (spells 1 κs Xs) (a .1)))) (has-all 𝓤 H A W κs Xs (a .1) are) $ move ! (1 ∷ 0 ∷ []) $ fjoin ! $
+        use0 W (‵ (hasOf κs (slots 1 Xs) (all yes (slots 1 Xs)) (stays Xs) (a .1) (fins κs Xs (a .1)) (valss (Rows 1 κs Xs) (spells 1 κs Xs) (a .1)))) (has-all 𝓤 H A W κs Xs (a .1) are) $
+        move ! (1 ∷ 0 ∷ []) $ fjoin ! $
         owned ! (L .A° .row) (Is (L .A° .row)) (L .A° .makes 𝓤 H A W) (L .told .get s) (vA s ∷ []) (e .1) $ move ! (1 ∷ 0 ∷ []) $ done !
 
   module _ (𝓣 : Tables 𝓤 H) (met : Triple 𝓤 (𝓣 .C #callee) callee) where
@@ -297,8 +301,11 @@ module _ (L : Lending) (Xs : List Arg) (Says : Saying L Xs) (Tells : Telling L X
         let a₀ : Denots (Rows 0 tt Xs) = carry κs Xs (a .1) in
         let are₀ : Known 0 tt Xs a₀ = carry-known κs Xs (a .1) are in
         let at : callee .Ghost = to-callee (now (a .0)) a₀ are₀ in
-        qed W ((‵ (flft (κs .0) (qs .0)) ⊛ ‵ ftrue) ∷ ‵ (owns (MutRef (named 0) (κs .0) (row (L .R)) ∷ Rows 1 κs Xs) a (ptr-vals (a .0), valss (Rows 1 κs Xs) (spells 1 κs Xs) (a .1))) ∷ []) ∵ split ! $ move ! (2 ∷ []) $ fsplit ! $ fsplit3 ! $ drop ! $ move ! (0 ∷ 1 ∷ 3 ∷ []) $ keep ! (0 ∷ 1 ∷ 2 ∷ []) $
-        by ! (walk (L .R) τA (L .S .name) (fieldTys (L .S)) (L .held .number) (L .told .number) #callee (L .R′) 𝓤 H A W (L .R-plain) (L .held .at .1) (L .told .at .1) (fieldVals (L .S) (L .S′)) (L .held .get) vA _ (κs .0) (qs .0) (a .0 .ptr .0) (a .0 .ptr .1) (name (a .0)) (now (a .0)) (tys Xs) (vals 1 κs Xs (a .1)) (typed-all 1 κs 𝓤 H A W Xs (a .1) are) _ _ _
+        qed W ((‵ (flft (κs .0) (qs .0)) ⊛ ‵ ftrue) ∷ ‵ (owns (MutRef (named 0) (κs .0) (row (L .R)) ∷ Rows 1 κs Xs) a (ptr-vals (a .0), valss (Rows 1 κs Xs) (spells 1 κs Xs) (a .1))) ∷ []) ∵
+        split ! $ move ! (2 ∷ []) $ fsplit ! $ fsplit3 ! $ drop ! $ move ! (0 ∷ 1 ∷ 3 ∷ []) $ keep ! (0 ∷ 1 ∷ 2 ∷ []) $
+        by ! (walk (L .R) τA (L .S .name) (fieldTys (L .S)) (L .held .number) (L .told .number) #callee (L .R′) 𝓤 H A W (L .R-plain) (L .held .at .1) (L .told .at .1)
+        (fieldVals (L .S) (L .S′)) (L .held .get) vA _ (κs .0) (qs .0) (a .0 .ptr .0) (a .0 .ptr .1) (name (a .0)) (now (a .0)) (tys Xs) (vals 1 κs Xs (a .1))
+        (typed-all 1 κs 𝓤 H A W Xs (a .1) are) _ _ _
         (asks (now (a .0)) a₀ are₀) (gives (now (a .0)) a₀ are₀) (exits κs qs a are) (𝓣 .C) (𝓣 .Λ) (fmOf 𝓤 H (W .laws) 𝓣)
         (subst (λ (vs : List Val). ent 𝓤 (callee .pre at) (𝓣 .C #callee (vR (now (a .0)) ∷ vs) (callee .post at))) (flat-is 0 tt Xs a₀ ∙ carry-vals κs Xs (a .1)) (met at)))
 
@@ -306,7 +313,9 @@ module _ (L : Lending) (Xs : List Arg) (Says : Saying L Xs) (Tells : Telling L X
     meets = walk-meets 𝓤 H A own stayed W (goes-ref 𝓤 H A W 1 0 tt (plain (λ _. row (L .R))), go-args 𝓤 H A W Xs) (telling L Xs 𝓤 Tells) (WpFn 𝓤 H (𝓣 .C) (𝓣 .Λ) code) (WpFn-mono 𝓤 H (W .laws) 𝓣 code)
         (walked 𝓤 H A own stayed (telling L Xs 𝓤 Tells) (WpFn 𝓤 H (𝓣 .C) (𝓣 .Λ) code) (λ κs. (ptr-vals, spells 1 κs Xs)) (λ κs. (mut-tells (named 0) (κs .0) (row (L .R)), tellss 1 κs Xs))
         (λ κs qs bounds a g are. let entry : SProp 𝓤 = onEntry 𝓤 H A (own .signature) κs qs a (ptr-vals (a .0), valss (Rows 1 κs Xs) (spells 1 κs Xs) (a .1)) in
-        via 𝓤 entry (fst∗ 𝓤 entry (emp 𝓤)) (subst (λ (vs : List Val). ent 𝓤 entry (WpFn 𝓤 H (𝓣 .C) (𝓣 .Λ) code (vptr (a .0 .ptr .0) (a .0 .ptr .1) ∷ vs) (walkOf 𝓤 H A own stayed (telling L Xs 𝓤 Tells) .post (at-own κs qs a (are .1)))))
+        via 𝓤 entry (fst∗ 𝓤 entry (emp 𝓤))
+        (subst (λ (vs : List Val). ent 𝓤 entry
+        (WpFn 𝓤 H (𝓣 .C) (𝓣 .Λ) code (vptr (a .0 .ptr .0) (a .0 .ptr .1) ∷ vs) (walkOf 𝓤 H A own stayed (telling L Xs 𝓤 Tells) .post (at-own κs qs a (are .1)))))
         (sym (flat-is 1 κs Xs (a .1))) (runs κs qs a (are .1)))))
 
 -- ---- what a proof cites: of the function and of its callee it gives what Rattle made of them, and the callee's theorem

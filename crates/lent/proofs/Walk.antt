@@ -202,11 +202,14 @@ module _ (R : Declared) (τA : Ty) (ν : Sym) (σs : Tys) (i j : ℕ) (#callee :
           -- [the record's cell; the open borrow; obs; auth; the arguments 4; the copy 5, 6; the result 7, 8; the arguments' ends 9; the reference 10, 11; _0 12, 13]
           assigns ! (of-opd ! (load ! (from ! (hop ! (look ! 10 refl) (stop !))) (look-raw ! 0 refl))) (from-at ! (after-is 𝓤 H τs bs _ 1) (stop !)) (init ! 5 refl (LL.lawful R R′ 𝓤 H A W .typed h _ isR .0)) $
           nothing ! $ use1 W (raw Pre) (asks isR) $
-          calls-at ! fm Callee (λ _. known) tt (and-then ! (load ! (from-at ! (after-is 𝓤 H τs bs _ 1) (stop !)) (look ! 6 refl)) (all-opds ! 5 2 τs bs vs ty (at-next 𝓤 H _ _ 1 τs bs (at-next 𝓤 H _ _ 0 τs bs (at-head 𝓤 H τs bs _))) refl)) (λ v.
+          calls-at ! fm Callee (λ _. known) tt
+          (and-then ! (load ! (from-at ! (after-is 𝓤 H τs bs _ 1) (stop !)) (look ! 6 refl))
+          (all-opds ! 5 2 τs bs vs ty (at-next 𝓤 H _ _ 1 τs bs (at-next 𝓤 H _ _ 0 τs bs (at-head 𝓤 H τs bs _))) refl)) (λ v.
           use1 W (later (some-of (λ (s : D). raw (fact 𝓤 (Got v (us s) (f0 s) (vA s) × Says s))))) (gives v) $ await ! tt $ pick ! (λ s. heard ! (Got v (us s) (f0 s) (vA s) × Says s) (λ g.
           land ! (from-at ! (after-is 𝓤 H τs bs _ 0) (stop !)) (init ! 7 refl (g .0 .typed)) $
           rewrite ! 7 (λ (y : Val). ‵ (fat fullShare τS l₂ 0 y)) (g .0 .is) refl $
-          assigns ! (of-opd ! (load ! (from-at ! (after-is 𝓤 H τs bs _ 0) (fld ! atR (stop !))) (reads-as ! (g .0 .held) (look-in ! 7 (sub ! i atR (whole !)))))) (from ! (hop ! (look ! 10 refl) (stop !))) (store-raw ! 0 refl (LL.lawful R R′ 𝓤 H A W .typed (f0 s) _ (g .0 .fits) .0)) $
+          assigns ! (of-opd ! (load ! (from-at ! (after-is 𝓤 H τs bs _ 0) (fld ! atR (stop !))) (reads-as ! (g .0 .held) (look-in ! 7 (sub ! i atR (whole !))))))
+          (from ! (hop ! (look ! 10 refl) (stop !))) (store-raw ! 0 refl (LL.lawful R R′ 𝓤 H A W .typed (f0 s) _ (g .0 .fits) .0)) $
           assigns ! (of-opd ! (load ! (from-at ! (after-is 𝓤 H τs bs _ 0) (fld ! atA (stop !))) (reads-as ! (g .0 .told) (look-in ! 7 (sub ! j atA (whole !)))))) (from ! (stop !)) (init ! 12 refl (g .0 .answer)) $
           owned ! (row R) (Is (row R)) (LL.makes R R-plain 𝓤 H A) (f0 s) _ (g .0 .fits) $ move ! (1 ∷ 0 ∷ []) $ closes ! tt (row R) (f0 s) (vR (f0 s) ∷ []) b o $
           -- [obs; the borrow; the token; the arguments 3; the copy 4, 5; the result 6, 7; the arguments' ends 8; the reference 9, 10; _0 11, 12]
