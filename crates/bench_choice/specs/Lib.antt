@@ -1,2 +1,0 @@
--- The work of `bench_choice`.
-pub mod Choices

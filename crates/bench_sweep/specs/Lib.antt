@@ -1,2 +1,0 @@
--- The work of `bench_sweep`.
-pub mod Sweeps

@@ -1,2 +1,0 @@
--- The work of `bench_watch`.
-pub mod Watches
