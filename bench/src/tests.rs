@@ -14,8 +14,9 @@ mod plain;
 mod plain_calls;
 mod scenes;
 
+use calls::{Call, WatchCall};
 use dice::Dice;
-use library::{refusal_of, Told};
+use library::{refusal_of, told, Answer, Told};
 use made_up::{burst, heard};
 use plain::{
     choose, level_to_float, level_to_hundredths, quality_to_float, quality_to_hundredths, Burst, Choice, Levels,
@@ -328,6 +329,29 @@ fn damaged_watches_are_refused_and_stay() {
     assert!(refused > 1_000 && accepted > 1_000, "{refused} refused, {accepted} accepted");
 }
 
+/// The second program's answer to a call on a watch.
+fn second_answer(second: &mut second::watch::Watch, call: &WatchCall) -> u64 {
+    use second::watch::Verdict::{Move, Stay, Wait};
+    fn by_number<T>(answer: Result<T, second::refusal::Refusal>) -> Answer<T> {
+        answer.map_err(|refusal| refusal.number().into())
+    }
+    match *call {
+        WatchCall::Start(serving) => told(by_number(second.start(serving))),
+        WatchCall::NewList(ref list) => told(by_number(second.new_list(list))),
+        WatchCall::MoveTo(channel) => told(by_number(second.move_to(channel))),
+        WatchCall::File(channel, burst) => told(by_number(second.file(channel, second_burst(burst)))),
+        WatchCall::Ask(channel) => {
+            told(by_number(second.ask(channel)).map(|(count, mean)| Levels { count, mean: mean as i32 }))
+        }
+        WatchCall::Verdict(hysteresis) => told(by_number(second.verdict(hysteresis)).map(|verdict| match verdict {
+            Wait => Verdict::Wait,
+            Stay => Verdict::Stay,
+            Move(channel) => Verdict::MoveTo(channel),
+        })),
+        WatchCall::Check => told(Ok(())),
+    }
+}
+
 #[test]
 fn watches_agree_with_the_second_program() {
     let dice = Dice::new(6);
@@ -335,52 +359,14 @@ fn watches_agree_with_the_second_program() {
         let mut plain = Watch::fresh();
         let mut second = second::watch::Watch::default();
         for _ in 0..5_000 {
-            let channel = dice.one_of(&[0, 1, 2, 3, 4, 5, 6, 7, 8, 1_087, 1_088, 65_535]);
+            let call = made_up::watch_call(&dice);
             let before = plain.clone();
-            let answer = match dice.below(200) {
-                0 => {
-                    let answer = number(plain.start(channel));
-                    assert_eq!(answer, second_number(second.start(channel)));
-                    answer
-                }
-                1..=10 => {
-                    let length = dice.one_of(&[0, 1, 2, 3, 4, 5, 6, 6, 6, 7, 8]);
-                    let first = dice.below(9) as u16;
-                    let mut list: Vec<u16> = (first..first + length).map(|c| c % 9).collect();
-                    if dice.once_in(5) {
-                        list.push(channel);
-                    }
-                    let answer = number(plain.new_list(&list));
-                    assert_eq!(answer, second_number(second.new_list(&list)));
-                    answer
-                }
-                11..=15 => {
-                    let answer = number(plain.move_to(channel));
-                    assert_eq!(answer, second_number(second.move_to(channel)));
-                    answer
-                }
-                16..=35 => {
-                    let hysteresis = dice.one_of(&[0, 1, 10, 100, 6_000, 6_001, -1, i32::MIN]);
-                    let told = second.verdict(hysteresis).map(|verdict| match verdict {
-                        second::watch::Verdict::Wait => Verdict::Wait,
-                        second::watch::Verdict::Stay => Verdict::Stay,
-                        second::watch::Verdict::Move(channel) => Verdict::MoveTo(channel),
-                    });
-                    let answer = plain.verdict(hysteresis);
-                    assert_eq!(answer.map_err(|why| why as u8), told.map_err(|why| why.number()));
-                    number(answer)
-                }
-                _ => {
-                    let burst = burst(&dice);
-                    let answer = number(plain.file(channel, burst));
-                    assert_eq!(answer, second_number(second.file(channel, second_burst(burst))));
-                    answer
-                }
-            };
-            assert!(answer == 0 || plain == before);
-            let told = second.ask(channel).map(|(count, mean)| Levels { count, mean: mean as i32 });
-            assert_eq!(plain.ask(channel).map_err(|why| why as u8), told.map_err(|why| why.number()));
+            let answer = call.make::<Plain>(&mut plain);
+            assert_eq!(answer, second_answer(&mut second, &call), "{call:?} on {before:?}");
+            assert!(refusal_of(answer).is_none() || plain == before);
             assert!(watch_is_well_formed(&plain));
+            let ask = WatchCall::Ask(dice.below(9) as u16);
+            assert_eq!(ask.make::<Plain>(&mut plain), second_answer(&mut second, &ask), "after {call:?} on {before:?}");
         }
     }
 }
@@ -413,20 +399,6 @@ fn a_refused_start_leaves_zeros() {
     assert_eq!(PowerRecord::start(&p), (zeros, Err(Refusal::ParameterOutOfRange)));
 }
 
-/// Parameters that are mostly in range.
-fn some_parameters(dice: &Dice) -> PowerParameters {
-    let most = [126, 60, 60, 60, 31, 10, 15];
-    let mut codes = most.map(|most| dice.below(most + 1));
-    if !dice.once_in(8) && codes[2] > codes[3] {
-        codes.swap(2, 3);
-    }
-    if dice.once_in(8) {
-        let place = dice.below(7) as usize;
-        codes[place] = dice.one_of(&[most[place], most[place] + 1, u32::MAX, 1 << 31, dice.word()]);
-    }
-    parameters(codes)
-}
-
 #[test]
 fn power_steps_agree_with_the_second_program() {
     let dice = Dice::new(7);
@@ -440,12 +412,12 @@ fn power_steps_agree_with_the_second_program() {
         mestep: p.mestep as i32,
     };
     for _ in 0..2_000 {
-        let p = some_parameters(&dice);
+        let p = made_up::parameters(&dice);
         let (mut plain, answer) = PowerRecord::start(&p);
         let (mut second, told) = second::power::Power::start(&codes(&p));
         assert_eq!(number(answer), second_number(told));
         for _ in 0..50 {
-            let p = if dice.once_in(2) { p } else { some_parameters(&dice) };
+            let p = if dice.once_in(2) { p } else { made_up::parameters(&dice) };
             let code = || dice.one_of(&[0, 60, 61, 63, 64, u32::MAX, dice.below(61), dice.below(61), dice.below(64)]);
             let (pan, par) = (code(), code());
             let decoded = (!dice.once_in(3)).then_some((pan, par));
