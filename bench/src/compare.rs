@@ -1,64 +1,109 @@
-//! Compares every answer of the archives with the plain Rust, on valid and on damaged input, before anything is timed.
+//! Compares every answer of the archive with the plain Rust's, on valid and on damaged input, before anything is timed,
+//! and the record after each call.
 
+use crate::calls::{Call, PowerCall, SweepCall, WatchCall};
 use crate::dice::Dice;
 use crate::floats::turning_bits;
-use crate::ours::{self, HundredthsAnswer, SentAnswer};
-use crate::plain::{PowerParameters, PowerRecord, Refusal, Sent};
-use crate::{border, loops};
+use crate::library::{refusal_of, told, Library, Record};
+use crate::made_up;
+use crate::ours::Ours;
+use crate::plain::{Sweep, Watch, CHANNELS};
+use crate::plain_calls::Plain;
 use std::fmt::Debug;
 
-/// How many answers were compared; the first that differs ends the program.
+/// How many answers were compared, and how many of them are each refusal; the first that differs ends the program.
 #[derive(Default)]
 pub struct Compared {
     count: u64,
+    refused: [u64; 10],
 }
 
 impl Compared {
-    fn same<T: PartialEq + Debug>(&mut self, what: impl FnOnce() -> String, ours: T, plain: T) {
+    /// Compares an answer, told as a number.
+    pub fn answer(&mut self, what: impl FnOnce() -> String, ours: u64, plain: u64) {
         self.count += 1;
+        if let Some(refusal) = refusal_of(ours) {
+            self.refused[refusal] += 1;
+        }
         if ours != plain {
-            println!("bench: {} differs: the archive answers {ours:?}, the plain Rust {plain:?}", what());
+            differs(what(), &worded(ours), &worded(plain));
+        }
+    }
+
+    /// Says how much was compared. No refusal may be missing, or the comparison would not be what it should be.
+    pub fn report(&self) {
+        println!("bench: {} answers compared, all the same", self.count);
+        let refusals: Vec<String> = (1..=9).map(|refusal| format!("{refusal}: {}", self.refused[refusal])).collect();
+        println!("bench: of these are refused, by number: {}", refusals.join(", "));
+        if self.refused[1..].contains(&0) {
+            println!("bench: a refusal was not met");
             std::process::exit(1);
         }
     }
 }
 
-fn hundredths_answer(answer: Result<i32, Refusal>) -> HundredthsAnswer {
-    match answer {
-        Ok(hundredths) => HundredthsAnswer { refusal: 0, hundredths },
-        Err(refusal) => HundredthsAnswer { refusal: refusal as u32, hundredths: 0 },
+/// An answer in words.
+fn worded(answer: u64) -> String {
+    refusal_of(answer).map_or_else(|| format!("{answer:#x}"), |refusal| format!("refusal {refusal}"))
+}
+
+fn differs(what: String, ours: &str, plain: &str) -> ! {
+    println!("bench: {what} differs: the archive gives {ours}, the plain Rust {plain}");
+    std::process::exit(1);
+}
+
+/// Ends the program where the two differ.
+pub fn same<T: PartialEq + Debug>(what: impl FnOnce() -> String, ours: T, plain: T) {
+    if ours != plain {
+        differs(what(), &format!("{ours:?}"), &format!("{plain:?}"));
     }
 }
 
-/// Refusal number and bits.
-fn float_answer(answer: Result<f32, Refusal>) -> (u32, u32) {
-    match answer {
-        Ok(value) => (0, value.to_bits()),
-        Err(refusal) => (refusal as u32, 0),
+/// Two records that are alike, one of each side.
+struct Pair<C: Call> {
+    ours: C::Of<Ours>,
+    plain: C::Of<Plain>,
+}
+
+impl<C: Call> Pair<C> {
+    fn of(record: &C::Plain) -> Pair<C> {
+        Pair { ours: Record::of(record), plain: Record::of(record) }
+    }
+
+    /// Makes a call on both sides; they give the same answer and leave the same record, which is that of before where
+    /// the call is refused.
+    fn call(&mut self, compared: &mut Compared, call: &C) {
+        let before = self.plain.told();
+        let what = |part: &str| format!("the {part} of {call:?} on {before:?}");
+        let ours = call.make::<Ours>(&mut self.ours);
+        let plain = call.make::<Plain>(&mut self.plain);
+        compared.answer(|| what("answer"), ours, plain);
+        same(|| what("record"), self.ours.told(), self.plain.told());
     }
 }
 
-fn sent_answer(answer: Result<Sent, Refusal>) -> SentAnswer {
-    match answer {
-        Ok(Sent { par, pan }) => SentAnswer { refusal: 0, par, pan },
-        Err(refusal) => SentAnswer { refusal: refusal as u32, par: 0, pan: 0 },
-    }
+/// A call without a record, on both sides.
+macro_rules! compare_call {
+    ($compared:expr, $call:ident($($argument:expr),*)) => {
+        $compared.answer(
+            || format!(concat!("the answer of ", stringify!($call), " to {:?}"), ($($argument,)*)),
+            told(Ours::$call($($argument),*)),
+            told(Plain::$call($($argument),*)),
+        )
+    };
 }
 
 /// Floats around each half hundredth and each end, NaN, the infinities, and a million of any bits.
 fn compare_hundredths(compared: &mut Compared) {
     let dice = Dice::new(11);
     let random = (0..1_000_000).map(|_| dice.word());
-    for bits in turning_bits().into_iter().chain(random) {
-        let x = f32::from_bits(bits);
-        let level = hundredths_answer(border::level_to_hundredths(x));
-        compared.same(|| format!("the level with the bits {bits:08x}"), ours::royukezan_level_to_hundredths(x), level);
-        let quality = hundredths_answer(border::quality_to_hundredths(x));
-        compared.same(
-            || format!("the quality with the bits {bits:08x}"),
-            ours::royukezan_quality_to_hundredths(x),
-            quality,
-        );
+    let mut before = 0.0;
+    for x in turning_bits().into_iter().chain(random).map(f32::from_bits) {
+        compare_call!(compared, level_to_hundredths(x));
+        compare_call!(compared, quality_to_hundredths(x));
+        compare_call!(compared, burst_to_hundredths(x, before));
+        compare_call!(compared, burst_to_hundredths(before, x));
+        before = x;
     }
 }
 
@@ -67,123 +112,134 @@ fn compare_floats(compared: &mut Compared) {
     let dice = Dice::new(12);
     let random = (0..1_000_000).map(|_| dice.word() as i32);
     for h in (-20_000..=10_000).chain([i32::MIN, i32::MAX]).chain(random) {
-        let ours = ours::royukezan_level_to_float(h);
-        let plain = float_answer(border::level_to_float(h));
-        compared.same(|| format!("the float of the level {h}"), (ours.refusal, ours.value.to_bits()), plain);
-        let ours = ours::royukezan_quality_to_float(h);
-        let plain = float_answer(border::quality_to_float(h));
-        compared.same(|| format!("the float of the quality {h}"), (ours.refusal, ours.value.to_bits()), plain);
+        compare_call!(compared, level_to_float(h));
+        compare_call!(compared, quality_to_float(h));
+        compare_call!(compared, level_read_back(h));
+        compare_call!(compared, quality_read_back(h));
     }
 }
 
-/// A number from 0 to `most`, or now and then one beyond.
-fn code(dice: &Dice, most: u32) -> u32 {
-    if dice.once_in(40) {
-        dice.one_of(&[most, most + 1, most + 2, 255, 1 << 31, u32::MAX, dice.word()])
-    } else {
-        dice.below(most + 1)
-    }
-}
-
-fn parameters(dice: &Dice) -> PowerParameters {
-    let [a, b] = [code(dice, 60), code(dice, 60)];
-    let (panmin, panmax) = if dice.once_in(20) { (a, b) } else { (a.min(b), a.max(b)) };
-    PowerParameters {
-        sqt: code(dice, 126),
-        paninit: code(dice, 60),
-        panmin,
-        panmax,
-        gainup: code(dice, 31),
-        gaindn: code(dice, 10),
-        mestep: code(dice, 15),
-    }
-}
-
-/// A record of any codes, or now and then a damaged one.
-fn record(dice: &Dice) -> PowerRecord {
-    let increase = 200 * dice.below(121);
-    PowerRecord {
-        panlast: code(dice, 60),
-        parsave: code(dice, 60),
-        panbasic: code(dice, 60),
-        increase: if dice.once_in(20) {
-            dice.one_of(&[increase + 1, 24_200, 23_999, u32::MAX, dice.word()])
-        } else {
-            increase
-        },
-    }
-}
-
-/// Starts and steps on valid and damaged records, parameters, codes and SQI; the records are compared after each.
-fn compare_power(compared: &mut Compared) {
+/// Whole sweeps from a fresh one, with calls that are refused among them.
+fn compare_sweeps(compared: &mut Compared) {
     let dice = Dice::new(13);
+    for _ in 0..10 {
+        let mut pair = Pair::of(&Sweep::fresh());
+        while let Ok(Some(next)) = Plain::next(&pair.plain) {
+            pair.call(compared, &made_up::sweep_call(&dice, next));
+        }
+        for call in [SweepCall::Next, SweepCall::Counts, SweepCall::Check] {
+            pair.call(compared, &call);
+        }
+    }
+}
+
+/// Every call on sweeps that are damaged.
+fn compare_damaged_sweeps(compared: &mut Compared) {
+    let dice = Dice::new(14);
+    for round in 0..40 {
+        let sweep = made_up::sweep(&dice, [0, 1, 4, 7, 8][round % 5], [8, 7, 4, 1][round % 4], -15_000, 0);
+        for _ in 0..200 {
+            let mut pair = Pair::of(&made_up::damaged_sweep(&dice, &sweep));
+            for call in [
+                SweepCall::Check,
+                SweepCall::Next,
+                SweepCall::Counts,
+                SweepCall::Choose { margin: made_up::margin(&dice), outcomes: made_up::outcomes(&dice, 3) },
+                SweepCall::File(0, made_up::burst(&dice)),
+                SweepCall::File(dice.below(1_090) as u16, made_up::burst(&dice)),
+            ] {
+                pair.call(compared, &call);
+            }
+        }
+    }
+}
+
+/// Choices over sweeps of many and of few levels, with outcome bytes of every kind mixed, strings and margins that are
+/// none, and sweeps that lack a channel.
+fn compare_choices(compared: &mut Compared) {
+    let dice = Dice::new(15);
+    for round in 0..60 {
+        // Few levels make many equals.
+        let low = [-15_000, -9_100, -9_005, -1, -6_010][round % 5];
+        let high = low + [15_000, 300, 3, 1, 6_010][round % 5];
+        let mut sweep = made_up::sweep(&dice, 8, [8, 7, 4, 1, 0, 2][round % 6], low, high);
+        if round % 10 == 9 {
+            sweep.visited[16] &= !(1 << 62);
+            sweep.heard[16] &= !(1 << 62);
+            sweep.levels[1_086] = 0;
+        }
+        let mut pair = Pair::of(&sweep);
+        for _ in 0..40 {
+            // How many channels are open, 0 or 1.
+            let mut outcomes = made_up::outcomes(&dice, dice.one_of(&[1, 3, 20, 300, 2_000, 100_000]));
+            if dice.once_in(8) {
+                outcomes[dice.below(CHANNELS as u32) as usize] = dice.one_of(&[5, 6, 7, 255]);
+            }
+            if dice.once_in(8) {
+                outcomes.resize(dice.one_of(&[0, 1, CHANNELS - 1, CHANNELS + 1]), 0);
+            }
+            pair.call(compared, &SweepCall::Choose { margin: made_up::margin(&dice), outcomes });
+        }
+    }
+}
+
+/// Watches from a fresh one, with calls that are refused among them; now and then every call on a damaged copy.
+fn compare_watches(compared: &mut Compared) {
+    let dice = Dice::new(16);
+    for _ in 0..20 {
+        let mut pair = Pair::of(&Watch::fresh());
+        for _ in 0..20_000 {
+            pair.call(compared, &made_up::watch_call(&dice));
+            if dice.once_in(8) {
+                let damaged = made_up::damaged_watch(&dice, &pair.plain);
+                for call in made_up::watch_calls(&dice) {
+                    Pair::of(&damaged).call(compared, &call);
+                }
+            }
+        }
+    }
+}
+
+/// Verdicts and means where sums are equal, or apart by a hysteresis exactly.
+fn compare_close_watches(compared: &mut Compared) {
+    let dice = Dice::new(18);
+    for _ in 0..20_000 {
+        let mut pair = Pair::of(&made_up::close_watch(&dice));
+        for hysteresis in [0, 99, 100, 101, 200] {
+            pair.call(compared, &WatchCall::Verdict(hysteresis));
+        }
+        for channel in 0..9 {
+            pair.call(compared, &WatchCall::Ask(channel));
+        }
+    }
+}
+
+/// Starts, and steps on valid and damaged records, with valid and damaged parameters, codes and SQI.
+fn compare_power(compared: &mut Compared) {
+    let dice = Dice::new(17);
     for _ in 0..50_000 {
-        let p = parameters(&dice);
-        let mut ours = record(&dice);
-        let refusal = ours::royukezan_power_start(&mut ours, p);
-        let (plain, answer) = PowerRecord::start(&p);
-        let number = answer.map_or_else(|refusal| refusal as u32, |()| 0);
-        compared.same(|| format!("the power start with {p:?}"), (refusal, ours), (number, plain));
-        if !dice.once_in(3) {
-            ours = record(&dice);
-        }
-        let mut plain = ours;
+        let p = made_up::parameters(&dice);
+        let (ours, plain) = (Ours::start_power(&p), Plain::start_power(&p));
+        let what = || format!("the power start with {p:?}");
+        compared.answer(what, told(ours.map(drop)), told(plain.map(drop)));
+        same(what, ours.map(|record| record.told()), plain);
+        let started = plain.ok().filter(|_| dice.once_in(3));
+        let mut pair: Pair<PowerCall> = Pair::of(&started.unwrap_or_else(|| made_up::power_record(&dice)));
         for _ in 0..20 {
-            let p = if dice.once_in(3) { parameters(&dice) } else { p };
-            let before = ours;
-            let sqi = dice.from_to(-3_050, 4_050);
-            let (pan, par) = (code(&dice, 63), code(&dice, 63));
-            if dice.once_in(3) {
-                let answers = (
-                    ours::royukezan_power_step_failed(&mut ours, p, sqi),
-                    sent_answer(border::step_failed(&mut plain, &p, sqi)),
-                );
-                compared.same(
-                    || format!("the failed step of {before:?} with {p:?}, SQI {sqi}"),
-                    (answers.0, ours),
-                    (answers.1, plain),
-                );
-            } else {
-                let answers = (
-                    ours::royukezan_power_step_decoded(&mut ours, p, pan, par, sqi),
-                    sent_answer(border::step_decoded(&mut plain, &p, pan, par, sqi)),
-                );
-                let what = || format!("the step of {before:?} with {p:?}, PAN {pan}, PAR {par}, SQI {sqi}");
-                compared.same(what, (answers.0, ours), (answers.1, plain));
-            }
+            let p = if dice.once_in(3) { made_up::parameters(&dice) } else { p };
+            pair.call(compared, &made_up::power_call(&dice, p));
         }
     }
 }
 
-type Loop = fn(u32, u32, u32) -> u32;
-
-/// The checksums of a loop, of every kind, over some seeds and numbers of ticks.
-fn compare_loop(compared: &mut Compared, name: &str, ours: Loop, plain: Loop, most_of_kind_1: u32) {
-    let ticks = (0..=20).chain([50, 100, 211, 1_084, 1_085, 1_086, 1_087, 1_088, 2_172, 2_173, 5_000]);
-    let seeds = [0, 1, 2, 20_261_116, 0x8000_0000, u32::MAX];
-    for ticks in ticks {
-        for kind in (0..=5).chain([u32::MAX]) {
-            for seed in seeds {
-                let ticks = if kind == 1 { ticks.min(most_of_kind_1) } else { ticks };
-                let what = || format!("{name} of kind {kind}, {ticks} ticks, seed {seed}");
-                compared.same(what, ours(kind, ticks, seed), plain(kind, ticks, seed));
-            }
-        }
-    }
-}
-
-/// Compares all; how many answers and checksums were the same.
-pub fn compare_all() -> u64 {
-    let mut compared = Compared::default();
-    compare_hundredths(&mut compared);
-    compare_floats(&mut compared);
-    compare_power(&mut compared);
-    let sweep: Loop = |kind, ticks, seed| ours::bench_sweep(kind, ticks, seed);
-    let choice: Loop = |kind, ticks, seed| ours::bench_choice(kind, ticks, seed);
-    let watch: Loop = |kind, ticks, seed| ours::bench_watch(kind, ticks, seed);
-    compare_loop(&mut compared, "bench_sweep", sweep, loops::bench_sweep, u32::MAX);
-    // Ours looks through all channels for each beam tried: the worst kind is given fewer ticks.
-    compare_loop(&mut compared, "bench_choice", choice, loops::bench_choice, 100);
-    compare_loop(&mut compared, "bench_watch", watch, loops::bench_watch, u32::MAX);
-    compared.count
+/// Compares all calls.
+pub fn compare_calls(compared: &mut Compared) {
+    compare_hundredths(compared);
+    compare_floats(compared);
+    compare_sweeps(compared);
+    compare_damaged_sweeps(compared);
+    compare_choices(compared);
+    compare_watches(compared);
+    compare_close_watches(compared);
+    compare_power(compared);
 }

@@ -29,7 +29,7 @@ impl Dice {
     }
 
     /// A number from `low` to `high`.
-    pub fn from_to(&self, low: i32, high: i32) -> i32 {
+    pub fn between(&self, low: i32, high: i32) -> i32 {
         low + self.below((high - low + 1) as u32) as i32
     }
 

@@ -1,19 +1,23 @@
-//! Compares the proved library with plain Rust, then times both and prints a table. `bench/run` builds and runs it.
+//! Compares the proved library, called through its Rust package, with plain Rust, then times both and prints a table.
+//! `bench/run` builds and runs it.
 
-mod border;
+mod calls;
 mod compare;
 mod dice;
 mod floats;
-mod loops;
+mod library;
+mod made_up;
 mod ours;
-// A move is tested, not timed.
-#[allow(dead_code)]
 mod plain;
+mod plain_calls;
+mod scenes;
 mod timing;
 
 fn main() {
-    let same = compare::compare_all();
-    println!("bench: {same} answers and checksums compared, all the same");
+    let mut compared = compare::Compared::default();
+    compare::compare_calls(&mut compared);
+    let rows = timing::rows(&mut compared);
+    compared.report();
     println!();
-    timing::time_all();
+    timing::time_all(rows);
 }

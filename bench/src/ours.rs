@@ -1,54 +1,165 @@
-//! The functions of the proved archives, as a Rust program declares them. Nothing checks these lines against the Rattle
-//! source but the comparison of the answers.
+//! The calls of the archive, through the Rust package of host/rust, as a host makes them.
 
-use crate::plain::{PowerParameters, PowerRecord};
+use crate::library::{Answer, Library, Record};
+use crate::plain::{Burst, Choice, Levels, PowerParameters, PowerRecord, Sent, Sweep, Track, Verdict, Watch};
+use royukezan::{power, readings, watch, Refusal};
 
-/// A level or a quality in hundredths; refusal 0 is accepted.
-#[derive(Clone, Copy, Debug, PartialEq, Eq)]
-#[repr(C)]
-pub struct HundredthsAnswer {
-    pub refusal: u32,
-    pub hundredths: i32,
+pub struct Ours;
+
+impl Record for royukezan::Sweep {
+    type Plain = Sweep;
+    fn of(plain: &Sweep) -> royukezan::Sweep {
+        royukezan::Sweep { levels: plain.levels, visited: plain.visited, heard: plain.heard }
+    }
+    fn told(&self) -> Sweep {
+        Sweep { levels: self.levels, visited: self.visited, heard: self.heard }
+    }
 }
 
-/// A level in dBm or a quality in dB.
-#[derive(Clone, Copy, Debug)]
-#[repr(C)]
-pub struct FloatAnswer {
-    pub refusal: u32,
-    pub value: f32,
+impl Record for royukezan::Watch {
+    type Plain = Watch;
+    fn of(plain: &Watch) -> royukezan::Watch {
+        let track = |t: Track| watch::Track { channel: t.channel, count: t.count, levels: t.levels };
+        royukezan::Watch { watched: plain.watched, tracks: plain.tracks.map(track) }
+    }
+    fn told(&self) -> Watch {
+        let track = |t: watch::Track| Track { channel: t.channel, count: t.count, levels: t.levels };
+        Watch { watched: self.watched, tracks: self.tracks.map(track) }
+    }
 }
 
-/// The codes to send.
-#[derive(Clone, Copy, Debug, PartialEq, Eq)]
-#[repr(C)]
-pub struct SentAnswer {
-    pub refusal: u32,
-    pub par: u32,
-    pub pan: u32,
+impl Record for power::Record {
+    type Plain = PowerRecord;
+    fn of(&PowerRecord { panlast, parsave, panbasic, increase }: &PowerRecord) -> power::Record {
+        power::Record { panlast, parsave, panbasic, increase }
+    }
+    fn told(&self) -> PowerRecord {
+        let power::Record { panlast, parsave, panbasic, increase } = *self;
+        PowerRecord { panlast, parsave, panbasic, increase }
+    }
 }
 
-// libhost.a: what a modem task calls.
-unsafe extern "C" {
-    pub safe fn royukezan_level_to_hundredths(x: f32) -> HundredthsAnswer;
-    pub safe fn royukezan_quality_to_hundredths(x: f32) -> HundredthsAnswer;
-    pub safe fn royukezan_level_to_float(h: i32) -> FloatAnswer;
-    pub safe fn royukezan_quality_to_float(h: i32) -> FloatAnswer;
-    pub safe fn royukezan_power_start(r: &mut PowerRecord, p: PowerParameters) -> u32;
-    pub safe fn royukezan_power_step_decoded(
-        r: &mut PowerRecord,
-        p: PowerParameters,
-        pan: u32,
-        par: u32,
-        sqi: i32,
-    ) -> SentAnswer;
-    pub safe fn royukezan_power_step_failed(r: &mut PowerRecord, p: PowerParameters, sqi: i32) -> SentAnswer;
+// The package's types in those of the plain Rust, and the reverse.
+
+#[inline(always)]
+fn by_number<T>(answer: Result<T, Refusal>) -> Answer<T> {
+    answer.map_err(Refusal::number)
 }
 
-// libbench_sweep.a, libbench_choice.a and libbench_watch.a: loops over sweep, choice and watch, whose calls take enums and so do not
-// cross the border.
-unsafe extern "C" {
-    pub safe fn bench_sweep(kind: u32, ticks: u32, seed: u32) -> u32;
-    pub safe fn bench_choice(kind: u32, ticks: u32, seed: u32) -> u32;
-    pub safe fn bench_watch(kind: u32, ticks: u32, seed: u32) -> u32;
+#[inline(always)]
+fn package_burst(burst: Burst) -> royukezan::Burst {
+    match burst {
+        Burst::Heard { level, quality } => royukezan::Burst::heard(level, quality),
+        Burst::Missed => royukezan::Burst::Missed,
+    }
+}
+
+#[inline(always)]
+fn package_parameters(p: &PowerParameters) -> power::Parameters {
+    let &PowerParameters { sqt, paninit, panmin, panmax, gainup, gaindn, mestep } = p;
+    power::Parameters { sqt, paninit, panmin, panmax, gainup, gaindn, mestep }
+}
+
+#[inline(always)]
+fn plain_choice(choice: royukezan::Choice) -> Choice {
+    match choice {
+        royukezan::Choice::Camp { channel, tried } => Choice::Camp { channel, tried },
+        royukezan::Choice::Read { channel, tried } => Choice::Read { channel, tried },
+        royukezan::Choice::NoBeam { tried } => Choice::NoBeam { tried },
+    }
+}
+
+#[inline(always)]
+fn plain_verdict(verdict: royukezan::Verdict) -> Verdict {
+    match verdict {
+        royukezan::Verdict::Wait => Verdict::Wait,
+        royukezan::Verdict::Stay => Verdict::Stay,
+        royukezan::Verdict::MoveTo(channel) => Verdict::MoveTo(channel),
+    }
+}
+
+#[inline(always)]
+fn plain_next(next: royukezan::Next) -> Option<u16> {
+    match next {
+        royukezan::Next::Channel(channel) => Some(channel),
+        royukezan::Next::Done => None,
+    }
+}
+
+#[inline(always)]
+fn plain_sent(sent: power::Sent) -> Sent {
+    Sent { par: sent.par, pan: sent.pan }
+}
+
+/// Stores the record that a step by value hands back.
+#[inline(always)]
+fn stored(step: Result<(power::Record, power::Sent), Refusal>, r: &mut power::Record) -> Result<Sent, Refusal> {
+    let (record, sent) = step?;
+    *r = record;
+    Ok(plain_sent(sent))
+}
+
+/// Writes each call: nothing but the call, the refusal by its number.
+macro_rules! calls {
+    ($($name:ident($($argument:ident: $type:ty),*) -> $value:ty { $body:expr })*) => {
+        $(
+            #[inline(always)]
+            fn $name($($argument: $type),*) -> Answer<$value> {
+                by_number($body)
+            }
+        )*
+    };
+}
+
+impl Library for Ours {
+    type Sweep = royukezan::Sweep;
+    type Watch = royukezan::Watch;
+    type Power = power::Record;
+
+    calls! {
+        level_to_hundredths(x: f32) -> i32 { readings::level_to_hundredths(x) }
+        quality_to_hundredths(x: f32) -> i32 { readings::quality_to_hundredths(x) }
+        level_to_float(h: i32) -> f32 { readings::level_to_float(h) }
+        quality_to_float(h: i32) -> f32 { readings::quality_to_float(h) }
+        level_read_back(h: i32) -> i32 { readings::level_read_back(h) }
+        quality_read_back(h: i32) -> i32 { readings::quality_read_back(h) }
+        burst_to_hundredths(level: f32, quality: f32) -> (i32, i32) {
+            readings::burst_to_hundredths(royukezan::Reading { level, quality }).map(|h| (h.level, h.quality))
+        }
+
+        file_swept(sweep: &mut Self::Sweep, channel: u16, burst: Burst) -> () {
+            sweep.file(channel, package_burst(burst))
+        }
+        next(sweep: &Self::Sweep) -> Option<u16> { sweep.next().map(plain_next) }
+        counts(sweep: &Self::Sweep) -> (u32, u32) { sweep.counts().map(|n| (n.visited, n.heard)) }
+        check_sweep(sweep: &Self::Sweep) -> () { sweep.check() }
+        choose(sweep: &Self::Sweep, margin: i32, outcomes: &[u8]) -> Choice {
+            royukezan::choose(sweep, margin, outcomes).map(plain_choice)
+        }
+
+        start(watch: &mut Self::Watch, serving: u16) -> () { watch.start(serving) }
+        new_list(watch: &mut Self::Watch, list: &[u16]) -> () { watch.new_list(list) }
+        move_to(watch: &mut Self::Watch, channel: u16) -> () { watch.move_to(channel) }
+        file(watch: &mut Self::Watch, channel: u16, burst: Burst) -> () { watch.file(channel, package_burst(burst)) }
+        ask(watch: &Self::Watch, channel: u16) -> Levels {
+            watch.ask(channel).map(|levels| Levels { count: levels.count as usize, mean: levels.mean })
+        }
+        verdict(watch: &Self::Watch, hysteresis: i32) -> Verdict { watch.verdict(hysteresis).map(plain_verdict) }
+        check_watch(watch: &Self::Watch) -> () { watch.check() }
+
+        start_power(p: &PowerParameters) -> power::Record { power::Record::start(package_parameters(p)) }
+        step_decoded(r: &mut power::Record, p: &PowerParameters, pan: u32, par: u32, sqi: i32) -> Sent {
+            r.step_decoded(package_parameters(p), pan, par, sqi).map(plain_sent)
+        }
+        step_failed(r: &mut power::Record, p: &PowerParameters, sqi: i32) -> Sent {
+            r.step_failed(package_parameters(p), sqi).map(plain_sent)
+        }
+        after_decoded(r: &mut power::Record, p: &PowerParameters, pan: u32, par: u32, sqi: i32) -> Sent {
+            stored(r.after_decoded(package_parameters(p), pan, par, sqi), r)
+        }
+        after_failed(r: &mut power::Record, p: &PowerParameters, sqi: i32) -> Sent {
+            stored(r.after_failed(package_parameters(p), sqi), r)
+        }
+        check_power(r: &power::Record) -> () { r.check() }
+    }
 }

@@ -44,7 +44,7 @@ fn nearest_hundredths(x: f32) -> i32 {
 /// A level in hundredths.
 #[inline]
 pub fn level_to_hundredths(x: f32) -> Result<i32, Refusal> {
-    if !(-150.0 <= x && x <= 0.0) {
+    if !(-150.0..=0.0).contains(&x) {
         return Err(Refusal::ReadingOutOfRange);
     }
     Ok(nearest_hundredths(x))
@@ -53,7 +53,7 @@ pub fn level_to_hundredths(x: f32) -> Result<i32, Refusal> {
 /// A quality in hundredths.
 #[inline]
 pub fn quality_to_hundredths(x: f32) -> Result<i32, Refusal> {
-    if !(-30.0 <= x && x <= 40.0) {
+    if !(-30.0..=40.0).contains(&x) {
         return Err(Refusal::ReadingOutOfRange);
     }
     Ok(nearest_hundredths(x))
@@ -639,15 +639,23 @@ impl PowerRecord {
             & (self.parsave <= NUMERIC_HIGHEST)
             & (self.panbasic <= NUMERIC_HIGHEST)
             & (self.increase <= THOUSANDTHS_HIGHEST)
-            & (self.increase % MESTEP_STEP == 0)
+            & self.increase.is_multiple_of(MESTEP_STEP)
+    }
+
+    /// Refusal 9 unless the record is well formed.
+    #[inline]
+    pub fn check(&self) -> Result<(), Refusal> {
+        if self.is_well_formed() {
+            Ok(())
+        } else {
+            Err(Refusal::RecordNotWellFormed)
+        }
     }
 
     /// One step, with the decoded PAN and PAR or none. Refusals 9, 7, 1.
     #[inline]
     pub fn step(&mut self, p: &PowerParameters, decoded: Option<(u32, u32)>, sqi: i32) -> Result<Sent, Refusal> {
-        if !self.is_well_formed() {
-            return Err(Refusal::RecordNotWellFormed);
-        }
+        self.check()?;
         if !p.are_fine() || decoded.is_some_and(|(pan, par)| pan > CODE_HIGHEST || par > CODE_HIGHEST) {
             return Err(Refusal::ParameterOutOfRange);
         }

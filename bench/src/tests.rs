@@ -1,22 +1,29 @@
-//! Tests of the plain Rust and its loops: document 01's checked examples, random calls compared with the second
-//! program, and damaged records compared with a plain reading of the rules.
+//! Tests of the plain Rust and of the scenes that are timed: document 01's checked examples, random calls compared with
+//! the second program, damaged records compared with a plain reading of the rules, and what the scenes call.
 
+// The parts that need the archive are not built here.
+#[allow(dead_code)]
+mod calls;
 mod dice;
 mod floats;
-mod loops;
+#[allow(dead_code)]
+mod library;
+#[allow(dead_code)]
+mod made_up;
 mod plain;
+mod plain_calls;
+mod scenes;
 
+use calls::{Call, WatchCall};
 use dice::Dice;
-use loops::{bench_choice, bench_sweep, bench_watch};
+use library::{refusal_of, told, Answer, Told};
+use made_up::{burst, heard};
 use plain::{
     choose, level_to_float, level_to_hundredths, quality_to_float, quality_to_hundredths, Burst, Choice, Levels,
     PowerParameters, PowerRecord, Refusal, Sent, Sweep, Track, Verdict, Watch, CHANNELS, DEPTH,
 };
-
-/// A level of so many hundredths, heard at 10 dB.
-fn heard(hundredths: i32) -> Burst {
-    Burst::Heard { level: hundredths as f32 / 100.0, quality: 10.0 }
-}
+use plain_calls::Plain;
+use scenes::{played, Choices, FullSweep, Scene, Steps, ToFloat, ToHundredths, Watched};
 
 fn number<T>(answer: Result<T, Refusal>) -> u32 {
     answer.map_or_else(|refusal| refusal as u32, |_| 0)
@@ -97,16 +104,6 @@ fn every_hundredth_is_shown_and_read_back() {
     }
 }
 
-/// A burst that is mostly in range.
-fn some_burst(dice: &Dice) -> Burst {
-    match dice.below(8) {
-        0 => Burst::Missed,
-        1 => Burst::Heard { level: f32::from_bits(dice.word()), quality: f32::from_bits(dice.word()) },
-        2 => heard(dice.from_to(-15_010, 10)),
-        _ => heard(-100 * dice.from_to(60, 120)),
-    }
-}
-
 // The band sweep.
 
 /// The rule of a well-formed sweep, as document 01 states it.
@@ -120,34 +117,14 @@ fn sweep_is_well_formed(s: &Sweep) -> bool {
     })
 }
 
-/// A sweep of some channels.
-fn some_sweep(dice: &Dice, visited_in_8: u32, heard_in_8: u32) -> Sweep {
-    let mut sweep = Sweep::fresh();
-    for channel in 2..=1_086 {
-        if dice.below(8) < visited_in_8 {
-            let burst = if dice.below(8) < heard_in_8 { heard(dice.from_to(-15_000, 0)) } else { Burst::Missed };
-            assert_eq!(sweep.file(channel, burst), Ok(()));
-        }
-    }
-    sweep
-}
-
 #[test]
 fn damaged_sweeps_are_refused_and_stay() {
     let dice = Dice::new(2);
-    let levels =
-        [i32::MIN, i32::MAX, -15_001, -15_000, -1, 0, 1, 32_767, 32_768, 65_536, -32_768, -32_769, -65_536, -80_536];
     let (mut refused, mut accepted) = (0, 0);
     for round in 0..40 {
-        let sweep = some_sweep(&dice, [0, 1, 4, 7, 8][round % 5], [8, 7, 4, 1][round % 4]);
+        let sweep = made_up::sweep(&dice, [0, 1, 4, 7, 8][round % 5], [8, 7, 4, 1][round % 4], -15_000, 0);
         for _ in 0..200 {
-            let mut damaged = sweep.clone();
-            let channel = dice.one_of(&[0, 1, 2, 63, 64, 1_085, 1_086, 1_087, dice.below(1_088) as usize]);
-            match dice.below(3) {
-                0 => damaged.visited[channel / 64] ^= 1 << (channel % 64),
-                1 => damaged.heard[channel / 64] ^= 1 << (channel % 64),
-                _ => damaged.levels[channel] = dice.one_of(&levels),
-            }
+            let mut damaged = made_up::damaged_sweep(&dice, &sweep);
             let well_formed = sweep_is_well_formed(&damaged);
             let before = damaged.clone();
             assert_eq!(damaged.check().is_ok(), well_formed);
@@ -178,7 +155,7 @@ fn sweeps_agree_with_the_second_program() {
             let next = second.next().unwrap_or(0);
             assert_eq!(plain.next(), Ok(second.next()));
             let channel = dice.one_of(&[next, next, 3, dice.below(1_090) as u16, dice.word() as u16]);
-            let burst = some_burst(&dice);
+            let burst = burst(&dice);
             let before = plain.clone();
             let answer = number(plain.file(channel, burst));
             assert_eq!(answer, second_number(second.file(channel, second_burst(burst))));
@@ -240,17 +217,13 @@ fn choices_agree_with_the_second_program() {
         let heard_in_32 = [32, 31, 16, 1, 0, 4][round % 6];
         for channel in 2..=1_086 {
             let is_heard = dice.below(32) < heard_in_32;
-            let burst = if is_heard { heard(dice.from_to(low, high)) } else { Burst::Missed };
+            let burst = if is_heard { heard(dice.between(low, high)) } else { Burst::Missed };
             assert_eq!(number(plain.file(channel, burst)), second_number(second.file(channel, second_burst(burst))));
         }
         for _ in 0..40 {
             // How many channels are open, 0 or 1.
-            let open_in = dice.one_of(&[1, 3, 20, 300, 2_000, 100_000]);
-            let mut outcomes = [0; CHANNELS];
-            for outcome in &mut outcomes {
-                *outcome = if dice.once_in(open_in) { dice.below(2) } else { 2 + dice.below(4) } as u8;
-            }
-            let margin = dice.one_of(&[0, 1, 2, 300, 6_000, dice.from_to(0, 6_000)]);
+            let outcomes = made_up::outcomes(&dice, dice.one_of(&[1, 3, 20, 300, 2_000, 100_000]));
+            let margin = dice.one_of(&[0, 1, 2, 300, 6_000, dice.between(0, 6_000)]);
             let told = match second::choice::choose(&second, margin, &outcomes) {
                 Ok(second::choice::Choice::Camp { channel, tried }) => Choice::Camp { channel, tried: tried as u32 },
                 Ok(second::choice::Choice::Read { channel, tried }) => Choice::Read { channel, tried: tried as u32 },
@@ -321,28 +294,18 @@ fn watch_is_well_formed(w: &Watch) -> bool {
 #[test]
 fn damaged_watches_are_refused_and_stay() {
     let dice = Dice::new(5);
-    let levels = [i32::MIN, i32::MAX, -15_001, -15_000, -1, 0, 1, 65_536];
     let (mut refused, mut accepted) = (0, 0);
     for round in 0..60 {
-        let list = [0, 200, 300, 400, 500, 1_087];
-        let mut watch = watching(100, &list[..round % 7]);
+        let list = [0, 2, 3, 4, 5, 1_087];
+        let mut watch = watching(1, &list[..round % 7]);
         for _ in 0..[0, 5, 60, 300][round % 4] {
-            let _ = watch.file(dice.one_of(&[0, 100, 200, 300, 400, 500, 1_087]), some_burst(&dice));
+            let _ = watch.file(dice.one_of(&[0, 1, 2, 3, 4, 5, 1_087]), burst(&dice));
         }
         if round % 9 == 8 {
             watch = Watch::fresh();
         }
         for _ in 0..300 {
-            let mut damaged = watch.clone();
-            let track = &mut damaged.tracks[dice.below(7) as usize];
-            match dice.below(4) {
-                0 => damaged.watched = dice.one_of(&[0, 1, 2, 3, 4, 5, 6, 7, 8, usize::MAX]),
-                1 => {
-                    track.channel = dice.one_of(&[0, 1, 100, 200, 300, 400, 500, 1_087, 1_088, 65_535, 65_534, 65_530])
-                }
-                2 => track.count = dice.one_of(&[0, 1, 14, 15, 16, usize::MAX, 1 << 32]),
-                _ => track.levels[dice.below(15) as usize] = dice.one_of(&levels),
-            }
+            let mut damaged = made_up::damaged_watch(&dice, &watch);
             let well_formed = watch_is_well_formed(&damaged);
             let before = damaged.clone();
             assert_eq!(damaged.check().is_ok(), well_formed, "{damaged:?}");
@@ -366,6 +329,29 @@ fn damaged_watches_are_refused_and_stay() {
     assert!(refused > 1_000 && accepted > 1_000, "{refused} refused, {accepted} accepted");
 }
 
+/// The second program's answer to a call on a watch.
+fn second_answer(second: &mut second::watch::Watch, call: &WatchCall) -> u64 {
+    use second::watch::Verdict::{Move, Stay, Wait};
+    fn by_number<T>(answer: Result<T, second::refusal::Refusal>) -> Answer<T> {
+        answer.map_err(|refusal| refusal.number().into())
+    }
+    match *call {
+        WatchCall::Start(serving) => told(by_number(second.start(serving))),
+        WatchCall::NewList(ref list) => told(by_number(second.new_list(list))),
+        WatchCall::MoveTo(channel) => told(by_number(second.move_to(channel))),
+        WatchCall::File(channel, burst) => told(by_number(second.file(channel, second_burst(burst)))),
+        WatchCall::Ask(channel) => {
+            told(by_number(second.ask(channel)).map(|(count, mean)| Levels { count, mean: mean as i32 }))
+        }
+        WatchCall::Verdict(hysteresis) => told(by_number(second.verdict(hysteresis)).map(|verdict| match verdict {
+            Wait => Verdict::Wait,
+            Stay => Verdict::Stay,
+            Move(channel) => Verdict::MoveTo(channel),
+        })),
+        WatchCall::Check => told(Ok(())),
+    }
+}
+
 #[test]
 fn watches_agree_with_the_second_program() {
     let dice = Dice::new(6);
@@ -373,52 +359,14 @@ fn watches_agree_with_the_second_program() {
         let mut plain = Watch::fresh();
         let mut second = second::watch::Watch::default();
         for _ in 0..5_000 {
-            let channel = dice.one_of(&[0, 1, 2, 3, 4, 5, 6, 7, 8, 1_087, 1_088, 65_535]);
+            let call = made_up::watch_call(&dice);
             let before = plain.clone();
-            let answer = match dice.below(200) {
-                0 => {
-                    let answer = number(plain.start(channel));
-                    assert_eq!(answer, second_number(second.start(channel)));
-                    answer
-                }
-                1..=10 => {
-                    let length = dice.one_of(&[0, 1, 2, 3, 4, 5, 6, 6, 6, 7, 8]);
-                    let first = dice.below(9) as u16;
-                    let mut list: Vec<u16> = (first..first + length).map(|c| c % 9).collect();
-                    if dice.once_in(5) {
-                        list.push(channel);
-                    }
-                    let answer = number(plain.new_list(&list));
-                    assert_eq!(answer, second_number(second.new_list(&list)));
-                    answer
-                }
-                11..=15 => {
-                    let answer = number(plain.move_to(channel));
-                    assert_eq!(answer, second_number(second.move_to(channel)));
-                    answer
-                }
-                16..=35 => {
-                    let hysteresis = dice.one_of(&[0, 1, 10, 100, 6_000, 6_001, -1, i32::MIN]);
-                    let told = second.verdict(hysteresis).map(|verdict| match verdict {
-                        second::watch::Verdict::Wait => Verdict::Wait,
-                        second::watch::Verdict::Stay => Verdict::Stay,
-                        second::watch::Verdict::Move(channel) => Verdict::MoveTo(channel),
-                    });
-                    let answer = plain.verdict(hysteresis);
-                    assert_eq!(answer.map_err(|why| why as u8), told.map_err(|why| why.number()));
-                    number(answer)
-                }
-                _ => {
-                    let burst = some_burst(&dice);
-                    let answer = number(plain.file(channel, burst));
-                    assert_eq!(answer, second_number(second.file(channel, second_burst(burst))));
-                    answer
-                }
-            };
-            assert!(answer == 0 || plain == before);
-            let told = second.ask(channel).map(|(count, mean)| Levels { count, mean: mean as i32 });
-            assert_eq!(plain.ask(channel).map_err(|why| why as u8), told.map_err(|why| why.number()));
+            let answer = call.make::<Plain>(&mut plain);
+            assert_eq!(answer, second_answer(&mut second, &call), "{call:?} on {before:?}");
+            assert!(refusal_of(answer).is_none() || plain == before);
             assert!(watch_is_well_formed(&plain));
+            let ask = WatchCall::Ask(dice.below(9) as u16);
+            assert_eq!(ask.make::<Plain>(&mut plain), second_answer(&mut second, &ask), "after {call:?} on {before:?}");
         }
     }
 }
@@ -451,20 +399,6 @@ fn a_refused_start_leaves_zeros() {
     assert_eq!(PowerRecord::start(&p), (zeros, Err(Refusal::ParameterOutOfRange)));
 }
 
-/// Parameters that are mostly in range.
-fn some_parameters(dice: &Dice) -> PowerParameters {
-    let most = [126, 60, 60, 60, 31, 10, 15];
-    let mut codes = most.map(|most| dice.below(most + 1));
-    if !dice.once_in(8) && codes[2] > codes[3] {
-        codes.swap(2, 3);
-    }
-    if dice.once_in(8) {
-        let place = dice.below(7) as usize;
-        codes[place] = dice.one_of(&[most[place], most[place] + 1, u32::MAX, 1 << 31, dice.word()]);
-    }
-    parameters(codes)
-}
-
 #[test]
 fn power_steps_agree_with_the_second_program() {
     let dice = Dice::new(7);
@@ -478,17 +412,17 @@ fn power_steps_agree_with_the_second_program() {
         mestep: p.mestep as i32,
     };
     for _ in 0..2_000 {
-        let p = some_parameters(&dice);
+        let p = made_up::parameters(&dice);
         let (mut plain, answer) = PowerRecord::start(&p);
         let (mut second, told) = second::power::Power::start(&codes(&p));
         assert_eq!(number(answer), second_number(told));
         for _ in 0..50 {
-            let p = if dice.once_in(2) { p } else { some_parameters(&dice) };
+            let p = if dice.once_in(2) { p } else { made_up::parameters(&dice) };
             let code = || dice.one_of(&[0, 60, 61, 63, 64, u32::MAX, dice.below(61), dice.below(61), dice.below(64)]);
             let (pan, par) = (code(), code());
             let decoded = (!dice.once_in(3)).then_some((pan, par));
             let sqi =
-                dice.one_of(&[-3_001, -3_000, 4_000, 4_001, dice.from_to(-3_000, 4_000), dice.from_to(-3_000, 4_000)]);
+                dice.one_of(&[-3_001, -3_000, 4_000, 4_001, dice.between(-3_000, 4_000), dice.between(-3_000, 4_000)]);
             let before = plain;
             let answer = plain.step(&p, decoded, sqi);
             let told = decoded.map(|(pan, par)| second::power::Codes { pan: pan as i32, par: par as i32 });
@@ -520,29 +454,65 @@ fn damaged_power_records_are_refused_and_stay() {
     }
 }
 
-// The loops.
+// The scenes that are timed: the calls that the table names, and as many.
 
-#[test]
-fn the_first_ticks_of_the_loops() {
-    let mixed = |answers: &[u32]| answers.iter().fold(0_u32, |sum, answer| sum.wrapping_mul(31).wrapping_add(*answer));
-    assert_eq!(bench_sweep(0, 0, 5), 0);
-    assert_eq!(bench_sweep(0, 2, 5), mixed(&[1_002, 100, 1_003, 100]));
-    assert_eq!(bench_sweep(3, 2, 5), mixed(&[9, 9]));
-    assert_eq!(bench_choice(3, 2, 5), mixed(&[8, 8]));
-    assert_eq!(bench_choice(4, 2, 5), mixed(&[9, 9]));
-    let warm = bench_watch(0, 0, 5);
-    assert_eq!(warm, mixed(&[100; 210]));
-    assert_eq!(bench_watch(0, 2, 5), mixed(&[100; 212]));
-    let mut answers = vec![100; 210];
-    answers.extend([9; 3]);
-    assert_eq!(bench_watch(4, 1, 5), mixed(&answers));
+/// Every answer of a scene; none is refused.
+fn answers<S: Scene>(scene: &S, calls: usize) -> Vec<u64> {
+    let (answers, _) = played::<Plain, S>(scene);
+    assert_eq!(scene.calls(), calls);
+    assert!(!answers.iter().any(|&answer| refusal_of(answer).is_some()));
+    answers
 }
 
 #[test]
-fn a_whole_sweep_ends_with_done_and_its_counts() {
-    // Kind 2 hears every channel: 1,085 channels filed, then done, the counts and a fresh sweep.
-    let mut answers: Vec<u32> = (2..=1_086).flat_map(|channel| [1_000 + channel, 100]).collect();
-    answers.extend([101, 1_085 * 2_000 + 1_085 + 10_000, 1_002, 100]);
-    let sum = answers.iter().fold(0_u32, |sum, answer| sum.wrapping_mul(31).wrapping_add(*answer));
-    assert_eq!(bench_sweep(2, 1_087, 99), sum);
+fn scenes_of_readings() {
+    let hundredths = answers(&ToHundredths::new(), 102_400);
+    assert_eq!(hundredths.len(), 102_400);
+    assert!(hundredths.iter().all(|&h| (-15_000..=0).contains(&(h as i32))));
+    let floats = answers(&ToFloat::new(), 102_400);
+    assert_eq!(floats.len(), 102_400);
+    assert!(floats.iter().all(|&bits| (-150.0..=0.0).contains(&f32::from_bits(bits as u32))));
+}
+
+#[test]
+fn a_full_sweep_goes_from_channel_to_channel_and_ends_with_its_counts() {
+    let scene = FullSweep::new();
+    let answers = answers(&scene, 1);
+    let (_, sweep) = played::<Plain, _>(&scene);
+    let mut told: Vec<u64> = (2..=1_086).flat_map(|channel| [Some(channel).number(), ().number()]).collect();
+    let counts = sweep.counts().unwrap();
+    assert_eq!(counts.0, 1_085);
+    told.extend([None.number(), counts.number()]);
+    assert_eq!(answers, told);
+}
+
+#[test]
+fn scenes_of_the_choice() {
+    let usual = Choices::usual();
+    let first = choose(&usual.begin(), 0, &[0; CHANNELS]).unwrap();
+    assert!(matches!(first, Choice::Read { tried: 1, .. }));
+    assert_eq!(answers(&usual, 400), [first.number(); 400]);
+    assert_eq!(answers(&Choices::worst(), 10), [Choice::NoBeam { tried: 1_085 }.number(); 10]);
+}
+
+#[test]
+fn scenes_of_the_watch() {
+    assert_eq!(answers(&Watched::file(), 5_000), [().number(); 5_000]);
+    // Every channel has all its levels: 15 in the upper half of the number.
+    assert!(answers(&Watched::ask(), 5_000).iter().all(|answer| answer >> 32 == 15));
+    let verdicts = answers(&Watched::verdict(), 5_000);
+    assert_eq!(verdicts.len(), 5_000);
+    assert!(!verdicts.contains(&Verdict::Wait.number()));
+    assert!(verdicts.contains(&Verdict::Stay.number()) && verdicts.iter().any(|&answer| answer < 1 << 16));
+}
+
+#[test]
+fn scenes_of_the_power_steps() {
+    for decoded in [true, false] {
+        let scene = Steps::new(decoded);
+        assert_eq!(answers(&scene, 102_400).len(), 102_400);
+        let (_, record) = played::<Plain, _>(&scene);
+        // A failed message raises the power to the highest; a decoded one clears the increase.
+        assert_eq!(record.increase, if decoded { 0 } else { 24_000 });
+    }
 }

@@ -1,206 +1,158 @@
-//! Times the calls of both sides on the same inputs, in turn, and prints the table.
+//! Times the scenes of both sides on the same inputs, in turn, and prints the table.
 
-use crate::dice::Dice;
-use crate::plain::{PowerParameters, PowerRecord, Refusal, Sent};
-use crate::{border, loops, ours};
+use crate::compare::{same, Compared};
+use crate::library::{Library, Record};
+use crate::ours::Ours;
+use crate::plain_calls::Plain;
+use crate::scenes::{played, Choices, FullSweep, Scene, Steps, ToFloat, ToHundredths, Watched};
 use std::hint::black_box;
 use std::time::Instant;
 
 /// How often each side is timed; the best counts, since whatever else runs on the machine only adds.
 const ROUNDS: u32 = 101;
 
-/// How many inputs are prepared for a call, and how often they are gone through in one timed run.
-const INPUTS: usize = 4_096;
-const TURNS: usize = 25;
-
-/// The ticks of one whole sweep: each of its 1,085 channels, then done and the counts.
-const SWEEP_TICKS: u32 = 1_086;
-
-const SEED: u32 = 20_261_116;
+/// How many copies of a record are timed together.
+const COPIES: u32 = 1_000;
 
 /// What stands under the table.
 const NOTES: &str = "\
 Per call, the best of ROUNDS rounds over all rows, the two sides in turn, after one round that does not count.
-No buffer is cleared first: the inputs lie ready and are the same for both sides, caches are warm; records are made
-fresh before each timed run. Conversions and power steps are calls on both sides: into the archive, and of plain
-functions that are not inlined. Sweep, choice and watch are loops on both sides, whose calls may be inlined as in an
-application; the time of a loop of no ticks is taken off, so that making the record does not count. Drawing the burst
-and the checksum count on both sides, and on ours the copies of a record that is handed over by value. A run of the
-worst choice has 5 calls on our side and 2,000 on the other, all with the same work. Both sides are built for any
+Ours are calls of the Rust package (host/rust), which crosses the border to the archive: a record by value is copied for
+each call, and copied back after a filing, beside the copies that are made within. The plain ones are functions that are
+not inlined and change their records in place. No buffer is cleared first: the inputs lie ready and are the same for
+both sides, caches are warm; records are made fresh before each timed run. Mixing the answer into a checksum counts on
+both sides, telling an answer of the package in the types of the plain Rust on ours. Both sides are built for any
 x86-64.";
 
-/// Something that is timed, and its best time so far in ns.
-struct Run {
-    run: Box<dyn Fn() -> u32>,
+/// One side of a row: its time in ns and the checksum of its answers, and the best time so far.
+struct Side {
+    run: Box<dyn Fn() -> (f64, u64)>,
     best: f64,
 }
 
-impl Run {
-    fn new(run: impl Fn() -> u32 + 'static) -> Run {
-        Run { run: Box::new(run), best: f64::INFINITY }
-    }
-
-    fn time(&mut self) {
-        let start = Instant::now();
-        black_box((self.run)());
-        self.best = self.best.min(start.elapsed().as_nanos() as f64);
-    }
-}
-
-/// One side of a row: a run of so many calls, and one that only prepares.
-struct Side {
-    calls: f64,
-    run: Run,
-    prepared: Option<Run>,
+/// The time of a scene on one side, and the checksum of the answers.
+#[inline(never)]
+fn timed<L: Library, S: Scene>(scene: &S) -> (f64, u64) {
+    let mut record = S::Of::<L>::of(&scene.begin());
+    let mut sum = 0_u64;
+    let start = Instant::now();
+    scene.play::<L>(&mut record, |answer| sum = sum.rotate_left(5) ^ answer);
+    let ns = start.elapsed().as_nanos() as f64;
+    (ns, black_box(sum))
 }
 
 impl Side {
-    fn time(&mut self) {
-        self.run.time();
-        if let Some(prepared) = &mut self.prepared {
-            prepared.time();
-        }
+    fn new<L: Library, S: Scene>(scene: &'static S) -> Side {
+        Side { run: Box::new(move || timed::<L, S>(scene)), best: f64::INFINITY }
     }
 
-    fn forget(&mut self) {
-        self.run.best = f64::INFINITY;
-        if let Some(prepared) = &mut self.prepared {
-            prepared.best = f64::INFINITY;
-        }
-    }
-
-    fn ns_per_call(&self) -> f64 {
-        (self.run.best - self.prepared.as_ref().map_or(0.0, |prepared| prepared.best)) / self.calls
+    /// Times it once more; the checksum.
+    fn time(&mut self) -> u64 {
+        let (ns, sum) = (self.run)();
+        self.best = self.best.min(ns);
+        sum
     }
 }
 
-struct Row {
+/// How a row's record goes into a call.
+#[derive(Clone, Copy)]
+enum Passed {
+    NoRecord,
+    Lent(usize),
+    /// By value: its bytes, and what one copy takes in ns.
+    Copied(usize, f64),
+}
+
+impl Passed {
+    /// By value: as many bytes as this record has.
+    fn copied<R: Record>(record: &R) -> Passed {
+        Passed::Copied(size_of::<R>(), copy_ns(record))
+    }
+
+    /// Two cells of the table.
+    fn cells(self) -> String {
+        match self {
+            Passed::NoRecord => "none | -".to_string(),
+            Passed::Lent(bytes) => format!("none, {bytes} lent | -"),
+            Passed::Copied(bytes, ns) => format!("{} | {}", apart(bytes as f64), shown(ns)),
+        }
+    }
+}
+
+pub struct Row {
     call: &'static str,
+    passed: Passed,
+    calls: f64,
     ours: Side,
     plain: Side,
 }
 
-/// The sum of the answers' numbers over the inputs, gone through several times.
-#[inline(always)]
-fn summed<T: Copy>(inputs: &[T], mut answer: impl FnMut(T) -> u32) -> u32 {
-    let mut sum = 0_u32;
-    for _ in 0..TURNS {
-        for input in black_box(inputs) {
-            sum = sum.wrapping_add(answer(*input));
+impl Row {
+    /// The row of a scene, once every answer of it and the record that it leaves are compared.
+    fn new<S: Scene + 'static>(compared: &mut Compared, call: &'static str, passed: Passed, scene: S) -> Row {
+        let ((ours, ours_left), (plain, plain_left)) = (played::<Ours, S>(&scene), played::<Plain, S>(&scene));
+        for (at, (&ours, &plain)) in ours.iter().zip(&plain).enumerate() {
+            compared.answer(|| format!("answer {at} of the row {call}"), ours, plain);
+        }
+        same(|| format!("the number of answers of the row {call}"), ours.len(), plain.len());
+        same(|| format!("the record after the row {call}"), ours_left, plain_left);
+        let scene: &'static S = Box::leak(Box::new(scene));
+        Row {
+            call,
+            passed,
+            calls: scene.calls() as f64,
+            ours: Side::new::<Ours, S>(scene),
+            plain: Side::new::<Plain, S>(scene),
         }
     }
-    sum
-}
 
-/// Calls across the border with all inputs.
-fn calls(run: impl Fn() -> u32 + 'static) -> Side {
-    Side { calls: (INPUTS * TURNS) as f64, run: Run::new(run), prepared: None }
-}
-
-type Loop = fn(u32, u32, u32) -> u32;
-
-/// A loop of so many ticks; one of none only prepares.
-fn ticks(side: Loop, kind: u32, ticks: u32) -> Side {
-    let run = move |ticks: u32| Run::new(move || side(black_box(kind), black_box(ticks), black_box(SEED)));
-    Side { calls: f64::from(ticks), run: run(ticks), prepared: Some(run(0)) }
-}
-
-/// Inputs that stay for the whole program.
-fn prepared<T>(input: impl Fn() -> T) -> &'static [T] {
-    Vec::leak((0..INPUTS).map(|_| input()).collect())
-}
-
-fn reading_rows(dice: &Dice) -> Vec<Row> {
-    let floats = prepared(|| -150.0 * (dice.word() as f32 / u32::MAX as f32));
-    let hundredths = prepared(|| dice.from_to(-15_000, 0));
-    let ours_read = |x| {
-        let answer = ours::royukezan_level_to_hundredths(x);
-        answer.hundredths as u32 ^ answer.refusal
-    };
-    let plain_read = |x| border::level_to_hundredths(x).map_or_else(|why| why as u32, |h| h as u32);
-    let ours_shown = |h| {
-        let answer = ours::royukezan_level_to_float(h);
-        answer.value.to_bits() ^ answer.refusal
-    };
-    let plain_shown = |h| border::level_to_float(h).map_or_else(|why| why as u32, f32::to_bits);
-    vec![
-        Row {
-            call: "level to hundredths",
-            ours: calls(move || summed(floats, ours_read)),
-            plain: calls(move || summed(floats, plain_read)),
-        },
-        Row {
-            call: "level to float",
-            ours: calls(move || summed(hundredths, ours_shown)),
-            plain: calls(move || summed(hundredths, plain_shown)),
-        },
-    ]
-}
-
-fn power_rows(dice: &Dice) -> Vec<Row> {
-    let p = PowerParameters { sqt: 85, paninit: 30, panmin: 2, panmax: 58, gainup: 10, gaindn: 5, mestep: 3 };
-    let fresh = PowerRecord { panlast: 30, parsave: 30, panbasic: 30, increase: 0 };
-    let codes = prepared(|| (dice.below(64), dice.below(64), dice.from_to(-3_000, 4_000)));
-    let plain_number = |answer: Result<Sent, Refusal>| answer.map_or_else(|why| why as u32, |sent| sent.par ^ sent.pan);
-    let ours_number = |answer: ours::SentAnswer| answer.par ^ answer.pan ^ answer.refusal;
-    let ours_decoded = move || {
-        let (mut r, p) = (fresh, black_box(p));
-        summed(codes, |(pan, par, sqi)| ours_number(ours::royukezan_power_step_decoded(&mut r, p, pan, par, sqi)))
-    };
-    let plain_decoded = move || {
-        let (mut r, p) = (fresh, black_box(p));
-        summed(codes, |(pan, par, sqi)| plain_number(border::step_decoded(&mut r, &p, pan, par, sqi)))
-    };
-    let ours_failed = move || {
-        let (mut r, p) = (fresh, black_box(p));
-        summed(codes, |(_, _, sqi)| ours_number(ours::royukezan_power_step_failed(&mut r, p, sqi)))
-    };
-    let plain_failed = move || {
-        let (mut r, p) = (fresh, black_box(p));
-        summed(codes, |(_, _, sqi)| plain_number(border::step_failed(&mut r, &p, sqi)))
-    };
-    vec![
-        Row { call: "power step, decoded", ours: calls(ours_decoded), plain: calls(plain_decoded) },
-        Row { call: "power step, failed", ours: calls(ours_failed), plain: calls(plain_failed) },
-    ]
-}
-
-fn loop_rows() -> Vec<Row> {
-    let sweep: Loop = |kind, ticks, seed| ours::bench_sweep(kind, ticks, seed);
-    let choice: Loop = |kind, ticks, seed| ours::bench_choice(kind, ticks, seed);
-    let watch: Loop = |kind, ticks, seed| ours::bench_watch(kind, ticks, seed);
-    let one_sweep = |side| Side { calls: 1.0, ..ticks(side, 0, SWEEP_TICKS) };
-    let watch_row =
-        |call, kind| Row { call, ours: ticks(watch, kind, 5_000), plain: ticks(loops::bench_watch, kind, 5_000) };
-    vec![
-        Row {
-            call: "full sweep: 1,085 times next and file, then counts",
-            ours: one_sweep(sweep),
-            plain: one_sweep(loops::bench_sweep),
-        },
-        Row {
-            call: "choice, usual: nothing read yet",
-            ours: ticks(choice, 0, 400),
-            plain: ticks(loops::bench_choice, 0, 400),
-        },
-        // Every tick does the same here; runs are kept short, so that most are not interrupted.
-        Row {
-            call: "choice, worst: all read, none suitable",
-            ours: ticks(choice, 1, 5),
-            plain: ticks(loops::bench_choice, 1, 2_000),
-        },
-        watch_row("watch: file", 0),
-        watch_row("watch: ask", 1),
-        watch_row("watch: verdict", 2),
-    ]
-}
-
-/// A time in ns: tenths where they say something, thousands apart.
-fn shown(ns: f64) -> String {
-    if ns < 100.0 {
-        return format!("{ns:.1}");
+    /// Times both sides; the answers are still the same.
+    fn time(&mut self) {
+        let sums = (self.ours.time(), self.plain.time());
+        same(|| format!("the checksum of the row {}", self.call), sums.0, sums.1);
     }
-    let whole = format!("{ns:.0}");
+
+    fn forget(&mut self) {
+        self.ours.best = f64::INFINITY;
+        self.plain.best = f64::INFINITY;
+    }
+}
+
+/// The rows of the table, compared and not yet timed.
+pub fn rows(compared: &mut Compared) -> Vec<Row> {
+    let none = Passed::NoRecord;
+    let sweep = Passed::copied(&royukezan::Sweep::fresh());
+    let watch = Passed::copied(&royukezan::Watch::fresh());
+    let lent = Passed::Lent(size_of::<royukezan::power::Record>());
+    vec![
+        Row::new(compared, "level to hundredths", none, ToHundredths::new()),
+        Row::new(compared, "level to float", none, ToFloat::new()),
+        Row::new(compared, "full sweep: 1,085 times next and file, then counts", sweep, FullSweep::new()),
+        Row::new(compared, "choice, usual: nothing read yet", sweep, Choices::usual()),
+        Row::new(compared, "choice, worst: all read, none suitable", sweep, Choices::worst()),
+        Row::new(compared, "watch: file", watch, Watched::file()),
+        Row::new(compared, "watch: ask", watch, Watched::ask()),
+        Row::new(compared, "watch: verdict", watch, Watched::verdict()),
+        Row::new(compared, "power step, decoded", lent, Steps::new(true)),
+        Row::new(compared, "power step, failed", lent, Steps::new(false)),
+    ]
+}
+
+/// What one copy of a record takes, in ns.
+fn copy_ns<R: Record>(record: &R) -> f64 {
+    let once = || {
+        let start = Instant::now();
+        for _ in 0..COPIES {
+            black_box(&black_box(record).clone());
+        }
+        start.elapsed().as_nanos() as f64 / f64::from(COPIES)
+    };
+    (0..ROUNDS).map(|_| once()).fold(f64::INFINITY, f64::min)
+}
+
+/// A whole number with its thousands apart.
+fn apart(number: f64) -> String {
+    let whole = format!("{number:.0}");
     let mut apart = String::new();
     for (place, digit) in whole.chars().enumerate() {
         if place > 0 && (whole.len() - place) % 3 == 0 {
@@ -211,27 +163,30 @@ fn shown(ns: f64) -> String {
     apart
 }
 
-/// Times all and prints the table.
-pub fn time_all() {
-    let dice = Dice::new(21);
-    let mut rows = reading_rows(&dice);
-    rows.extend(loop_rows());
-    rows.extend(power_rows(&dice));
+/// A time in ns: tenths where they say something.
+fn shown(ns: f64) -> String {
+    if ns < 100.0 {
+        format!("{ns:.1}")
+    } else {
+        apart(ns)
+    }
+}
+
+/// Times all rows and prints the table.
+pub fn time_all(mut rows: Vec<Row>) {
     for round in 0..=ROUNDS {
         for row in &mut rows {
-            row.ours.time();
-            row.plain.time();
+            row.time();
             if round == 0 {
-                row.ours.forget();
-                row.plain.forget();
+                row.forget();
             }
         }
     }
-    println!("| call | Rattle ns | plain Rust ns | ratio |");
-    println!("|---|---:|---:|---:|");
-    for Row { call, ours, plain } in rows {
-        let (ours, plain) = (ours.ns_per_call(), plain.ns_per_call());
-        println!("| {call} | {} | {} | {:.2} |", shown(ours), shown(plain), ours / plain);
+    println!("| call | Rattle ns | plain Rust ns | ratio | record by value, bytes | one copy of it, ns |");
+    println!("|---|---:|---:|---:|---:|---:|");
+    for Row { call, passed, calls, ours, plain } in rows {
+        let (ours, plain) = (ours.best / calls, plain.best / calls);
+        println!("| {call} | {} | {} | {:.2} | {} |", shown(ours), shown(plain), ours / plain, passed.cells());
     }
     println!();
     println!("{}", NOTES.replace("ROUNDS", &ROUNDS.to_string()));

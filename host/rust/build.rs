@@ -29,8 +29,8 @@ fn folder() -> PathBuf {
 fn main() {
     println!("cargo:rerun-if-changed=build.rs");
     println!("cargo:rerun-if-env-changed={FOLDER}");
-    if told("CARGO_CFG_TARGET_ARCH") != "x86_64" || told("CARGO_CFG_TARGET_FAMILY") != "unix" {
-        stop(format!("the archive is for x86-64 and the System V calling convention, not for {}", told("TARGET")));
+    if told("CARGO_CFG_TARGET_ARCH") != "x86_64" || told("CARGO_CFG_TARGET_OS") != "linux" {
+        stop(format!("the archive is for Linux on x86-64, not for {}", told("TARGET")));
     }
     let folder = folder();
     let archive = folder.join(ARCHIVE);

@@ -1,0 +1,147 @@
+//! The calls of one side, so that the same code compares and times both. Answers and records are told in the types of
+//! the plain Rust, refusals by their numbers.
+
+use crate::plain::{Burst, Choice, Levels, PowerParameters, PowerRecord, Sent, Sweep, Verdict, Watch};
+use std::fmt::Debug;
+
+/// What a call answers, or the number of its refusal.
+pub type Answer<T> = Result<T, u32>;
+
+/// A record of one side.
+pub trait Record: Clone {
+    type Plain: Clone + PartialEq + Debug;
+    fn of(plain: &Self::Plain) -> Self;
+    fn told(&self) -> Self::Plain;
+}
+
+/// For calls that have no record.
+impl Record for () {
+    type Plain = ();
+    fn of((): &()) {}
+    fn told(&self) {}
+}
+
+/// The calls of one side. Records are changed in place; a refused call leaves its record as it was.
+pub trait Library {
+    type Sweep: Record<Plain = Sweep>;
+    type Watch: Record<Plain = Watch>;
+    type Power: Record<Plain = PowerRecord>;
+
+    fn level_to_hundredths(x: f32) -> Answer<i32>;
+    fn quality_to_hundredths(x: f32) -> Answer<i32>;
+    fn level_to_float(h: i32) -> Answer<f32>;
+    fn quality_to_float(h: i32) -> Answer<f32>;
+    fn level_read_back(h: i32) -> Answer<i32>;
+    fn quality_read_back(h: i32) -> Answer<i32>;
+    fn burst_to_hundredths(level: f32, quality: f32) -> Answer<(i32, i32)>;
+
+    fn file_swept(sweep: &mut Self::Sweep, channel: u16, burst: Burst) -> Answer<()>;
+    /// None is done.
+    fn next(sweep: &Self::Sweep) -> Answer<Option<u16>>;
+    /// Visited and heard.
+    fn counts(sweep: &Self::Sweep) -> Answer<(u32, u32)>;
+    fn check_sweep(sweep: &Self::Sweep) -> Answer<()>;
+    fn choose(sweep: &Self::Sweep, margin: i32, outcomes: &[u8]) -> Answer<Choice>;
+
+    fn start(watch: &mut Self::Watch, serving: u16) -> Answer<()>;
+    fn new_list(watch: &mut Self::Watch, list: &[u16]) -> Answer<()>;
+    fn move_to(watch: &mut Self::Watch, channel: u16) -> Answer<()>;
+    fn file(watch: &mut Self::Watch, channel: u16, burst: Burst) -> Answer<()>;
+    fn ask(watch: &Self::Watch, channel: u16) -> Answer<Levels>;
+    fn verdict(watch: &Self::Watch, hysteresis: i32) -> Answer<Verdict>;
+    fn check_watch(watch: &Self::Watch) -> Answer<()>;
+
+    fn start_power(p: &PowerParameters) -> Answer<Self::Power>;
+    fn step_decoded(r: &mut Self::Power, p: &PowerParameters, pan: u32, par: u32, sqi: i32) -> Answer<Sent>;
+    fn step_failed(r: &mut Self::Power, p: &PowerParameters, sqi: i32) -> Answer<Sent>;
+    /// The same steps by value: the record that comes back is stored.
+    fn after_decoded(r: &mut Self::Power, p: &PowerParameters, pan: u32, par: u32, sqi: i32) -> Answer<Sent>;
+    fn after_failed(r: &mut Self::Power, p: &PowerParameters, sqi: i32) -> Answer<Sent>;
+    fn check_power(r: &Self::Power) -> Answer<()>;
+}
+
+/// A value as a number; two that differ have two numbers.
+pub trait Told {
+    fn number(self) -> u64;
+}
+
+impl Told for () {
+    fn number(self) -> u64 {
+        0
+    }
+}
+
+impl Told for i32 {
+    fn number(self) -> u64 {
+        u64::from(self as u32)
+    }
+}
+
+impl Told for f32 {
+    fn number(self) -> u64 {
+        u64::from(self.to_bits())
+    }
+}
+
+impl Told for Option<u16> {
+    fn number(self) -> u64 {
+        self.map_or(1 << 16, u64::from)
+    }
+}
+
+impl Told for (u32, u32) {
+    fn number(self) -> u64 {
+        u64::from(self.0) << 32 | u64::from(self.1)
+    }
+}
+
+impl Told for (i32, i32) {
+    fn number(self) -> u64 {
+        (self.0 as u32, self.1 as u32).number()
+    }
+}
+
+impl Told for Choice {
+    fn number(self) -> u64 {
+        let (kind, channel, tried) = match self {
+            Choice::Camp { channel, tried } => (1, channel, tried),
+            Choice::Read { channel, tried } => (2, channel, tried),
+            Choice::NoBeam { tried } => (3, 0, tried),
+        };
+        kind << 48 | u64::from(channel) << 32 | u64::from(tried)
+    }
+}
+
+impl Told for Levels {
+    fn number(self) -> u64 {
+        (self.count as u64) << 32 | self.mean.number()
+    }
+}
+
+impl Told for Verdict {
+    fn number(self) -> u64 {
+        match self {
+            Verdict::Wait => 1 << 16,
+            Verdict::Stay => 2 << 16,
+            Verdict::MoveTo(channel) => u64::from(channel),
+        }
+    }
+}
+
+impl Told for Sent {
+    fn number(self) -> u64 {
+        (self.par, self.pan).number()
+    }
+}
+
+/// An answer as a number. Refusals have the last ones, which no value has.
+#[inline(always)]
+pub fn told<T: Told>(answer: Answer<T>) -> u64 {
+    answer.map_or_else(|refusal| u64::MAX - u64::from(refusal), T::number)
+}
+
+/// The refusal that a number tells, or none.
+pub fn refusal_of(answer: u64) -> Option<usize> {
+    let refusal = u64::MAX - answer;
+    (refusal <= 9).then_some(refusal as usize)
+}
