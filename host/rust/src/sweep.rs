@@ -18,7 +18,7 @@ pub const WORDS: usize = CHANNELS / 64;
 #[derive(Clone, Debug, PartialEq, Eq)]
 #[repr(C)]
 pub struct Sweep {
-    /// In hundredths of a dBm; 0 where nothing was heard.
+    /// In hundredths of a dB; 0 where nothing was heard.
     pub levels: [i32; CHANNELS],
     /// The channels that a result was filed for.
     pub visited: [u64; WORDS],

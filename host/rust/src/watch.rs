@@ -18,7 +18,7 @@ pub struct Track {
     pub channel: u16,
     /// How many levels there are, 0 to 15.
     pub count: usize,
-    /// In hundredths of a dBm, oldest first; 0 from the count on.
+    /// In hundredths of a dB, oldest first; 0 from the count on.
     pub levels: [i32; DEPTH],
 }
 
@@ -41,7 +41,7 @@ pub struct Watch {
 pub struct Levels {
     /// 0 to 15.
     pub count: u32,
-    /// In hundredths of a dBm: the largest whole number not above sum / count; 0 for a count of 0.
+    /// In hundredths of a dB: the largest whole number not above sum / count; 0 for a count of 0.
     pub mean: i32,
 }
 
