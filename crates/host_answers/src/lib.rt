@@ -119,7 +119,7 @@ pub struct SentAnswer {
     pub pan: u32,
 }
 
-// What a step hands back.
+// What a step hands back. Its first number is the answer's.
 #[repr(C)]
 pub struct SentOutcome {
     pub answer: SentAnswer,
