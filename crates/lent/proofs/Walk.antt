@@ -113,21 +113,24 @@ module _ {M : Type 1} {𝓤 : URA M} {H : Heap 𝓤} {A : Atoms 𝓤} {K : Type 
   pub alloc-all : K → (τs : List Ty) {ls : List Local} {Kt : Env 𝓤 H → Goal 𝓤 H} {Γ : List (Item 𝓤)}
       → ((bs : Blocks τs) → Seq K W (‵ (rooms τs bs) ∷ ‵ (deaths τs bs) ∷ Γ) (allocs ls (λ E. Kt (env τs bs ++ E)))) → Seq K W Γ (allocs (locals τs ++ ls) Kt)
   alloc-all t [] k = nothing t $ nothing t $ k tt
-  alloc-all t (τ ∷ τs) k = alloc1 t (λ b. alloc-all t τs (λ bs. move t (2 ∷ 0 ∷ []) $ fjoin t $ move t (2 ∷ 1 ∷ []) $ fjoin t $ move t (1 ∷ 0 ∷ []) $ k (b, bs)))
+  alloc-all t (τ ∷ τs) k = alloc1 t (λ b. alloc-all t τs (λ bs. move t (2 ∷ 0 ∷ []) $ fjoin t $ move t (2 ∷ 1 ∷ []) $ fjoin t $ move t
+      (1 ∷ 0 ∷ []) $ k (b, bs)))
 
   pub pass-all : K → (τs : List Ty) (bs : Blocks τs) (vs : List Val) → Typed τs vs → (F : Env 𝓤 H) {g : Goal 𝓤 H} {Γ : List (Item 𝓤)}
       → Step K W (‵ (cells τs bs vs) ∷ Γ) g (‵ (rooms τs bs) ∷ Γ) (passes (env τs bs ++ F) vs g)
   pass-all t [] bs [] ty F = pass0 t
   pass-all t [] bs (v ∷ vs) ty F = absurd ty
   pass-all t (τ ∷ τs) bs [] ty F = absurd ty
-  pass-all t (τ ∷ τs) bs (v ∷ vs) ty F = step (λ s. fsplit t $ pass1 t (init t 0 refl (ty .0)) $ move t (1 ∷ []) $ pass-all t τs (bs .1) vs (ty .1) F $ move t (1 ∷ 0 ∷ []) $ fjoin t $ s)
+  pass-all t (τ ∷ τs) bs (v ∷ vs) ty F = step (λ s. fsplit t $ pass1 t (init t 0 refl (ty .0)) $ move t (1 ∷ []) $ pass-all t τs (bs .1) vs
+      (ty .1) F $ move t (1 ∷ 0 ∷ []) $ fjoin t $ s)
 
   pub free-all : K → (τs : List Ty) (bs : Blocks τs) (vs : List Val) → Typed τs vs → {F : Env 𝓤 H} {g : Goal 𝓤 H} {Γ : List (Item 𝓤)}
       → Step K W Γ (frees F g) (‵ (cells τs bs vs) ∷ ‵ (deaths τs bs) ∷ Γ) (frees (env τs bs ++ F) g)
   free-all t [] bs [] ty = step (λ s. drop t $ drop t $ s)
   free-all t [] bs (v ∷ vs) ty = absurd ty
   free-all t (τ ∷ τs) bs [] ty = absurd ty
-  free-all t (τ ∷ τs) bs (v ∷ vs) ty = step (λ s. fsplit t $ move t (2 ∷ []) $ fsplit t $ move t (2 ∷ 0 ∷ []) $ forget t 0 refl $ free1 t $ move t (1 ∷ 0 ∷ []) $ free-all t τs (bs .1) vs (ty .1) $ s)
+  free-all t (τ ∷ τs) bs (v ∷ vs) ty = step (λ s. fsplit t $ move t (2 ∷ []) $ fsplit t $ move t (2 ∷ 0 ∷ []) $ forget t 0 refl $ free1 t $ move t
+      (1 ∷ 0 ∷ []) $ free-all t τs (bs .1) vs (ty .1) $ s)
 
   -- what is read, by an equation
   pub reads-as : K → {Γ : List (Item 𝓤)} {τ : Ty} {b o : ℕ} {u v : Val} → u ≡ v → Reads K W Γ τ b o u → Reads K W Γ τ b o v
@@ -135,7 +138,8 @@ module _ {M : Type 1} {𝓤 : URA M} {H : Heap 𝓤} {A : Atoms 𝓤} {K : Type 
 
   module _ {Γ : List (Item 𝓤)} {E : Env 𝓤 H} where
     -- entry n of the context is the arguments' cells
-    pub all-opds : K → (n i : ℕ) (τs : List Ty) (bs : Blocks τs) (vs : List Val) → Typed τs vs → At 𝓤 H E i τs bs → nth 𝓤 H A n Γ ≡ ‵ (cells τs bs vs) → Opds K W Γ E (copies i τs) vs
+    pub all-opds : K → (n i : ℕ) (τs : List Ty) (bs : Blocks τs) (vs : List Val) → Typed τs vs → At 𝓤 H E i τs bs
+        → nth 𝓤 H A n Γ ≡ ‵ (cells τs bs vs) → Opds K W Γ E (copies i τs) vs
     all-opds t n i τs bs vs ty a e = record {
       go = λ Kt h. via 𝓤 (sep 𝓤 (mean 𝓤 H A (nth 𝓤 H A n Γ)) (⋆ 𝓤 H A (del 𝓤 H A n Γ))) (pull 𝓤 H A n Γ)
           (subst (λ (j : Item 𝓤). ent 𝓤 (sep 𝓤 (mean 𝓤 H A j) (⋆ 𝓤 H A (del 𝓤 H A n Γ))) (evalOpds 𝓤 H E (copies i τs) Kt)) (sym e)
@@ -144,7 +148,8 @@ module _ {M : Type 1} {𝓤 : URA M} {H : Heap 𝓤} {A : Atoms 𝓤} {K : Type 
     }
 
     -- a place in a local whose spot is known by an equation
-    pub from-at : K → {i : ℕ} {st : List PStep} {sp : Spot 𝓤 H} {τ : Ty} {b : ℕ} → getD E i (noLocal 𝓤 H) ≡ (τ, b) → Walks K W Γ E (τ, b, zero) st sp → Finds K W Γ E (place i st) sp
+    pub from-at : K → {i : ℕ} {st : List PStep} {sp : Spot 𝓤 H} {τ : Ty} {b : ℕ} → getD E i (noLocal 𝓤 H) ≡ (τ, b)
+        → Walks K W Γ E (τ, b, zero) st sp → Finds K W Γ E (place i st) sp
     from-at t {i} {st} {sp} e w = from t (subst (λ (x : Ty × ℕ). Walks K W Γ E (x .0, x .1, zero) st sp) (sym e) w)
 
 -- ---- the function: its callee gives a struct ν of fields σs, of which number i is the record and number j the answer
@@ -160,7 +165,8 @@ module _ (R : Declared) (τA : Ty) (ν : Sym) (σs : Tys) (i j : ℕ) (#callee :
     lifetimes = 1;
     outlives = [];
     params = after τs 1;
-    locals = local τA valueLocal ∷ local (tyRef (named 0) mut (pointee (row R .written))) valueLocal ∷ (locals τs ++ (local τS valueLocal ∷ local τR valueLocal ∷ []));
+    locals = local τA valueLocal ∷ local (tyRef (named 0) mut (pointee (row R .written))) valueLocal ∷
+        (locals τs ++ (local τS valueLocal ∷ local τR valueLocal ∷ []));
     body =
         seq (assign (place (suc (suc (after τs 1))) []) (rvOpd (copy (place 1 (deref τR ∷ [])))))
         (seq (call #callee (copy (place (suc (suc (after τs 1))) []) ∷ copies 2 τs) (place (suc (suc (after τs 0))) []))
@@ -181,38 +187,49 @@ module _ (R : Declared) (τA : Ty) (ν : Sym) (σs : Tys) (i j : ℕ) (#callee :
       pub told : getV us j ≡ w
       pub answer : T (hasTy τA w) × WT w
 
-    module _ {M : Type 1} (𝓤 : URA M) (H : Heap 𝓤) (A : Atoms 𝓤) (W : Given 𝓤 H A) (R-plain : Plains (fields R)) {dR dA : ℕ} (atR : fieldAt zero σs i ≡ some (τR, dR)) (atA : fieldAt zero σs j ≡ some (τA, dA))
+    module _ {M : Type 1} (𝓤 : URA M) (H : Heap 𝓤) (A : Atoms 𝓤) (W : Given 𝓤 H A) (R-plain : Plains (fields R)) {dR dA : ℕ}
+        (atR : fieldAt zero σs i ≡ some (τR, dR)) (atA : fieldAt zero σs j ≡ some (τA, dA))
         {D : Type 0} (us : D → Vals) (f0 : D → R .D) (vA : D → Val) (Says : D → Type 0) (κ : Lft) (q : Share) (b o : ℕ) (γ : GName) (h : R .D)
         (τs : List Ty) (vs : List Val) (ty : Typed τs vs) (Pre : SProp 𝓤) (Post₀ : Val → SProp 𝓤) (Post : Val → SProp 𝓤)
         (asks : Is (row R) h (vR h ∷ []) → ent 𝓤 (sem 𝓤 H A ftrue) Pre)
         (gives : (v : Val) → ent 𝓤 (Post₀ v) (H .⇛ (ex 𝓤 (λ (s : D). fact 𝓤 (Got v (us s) (f0 s) (vA s) × Says s)))))
-        (exits : (s : D) → Says s → ent 𝓤 (sep 𝓤 (A .obs γ (row R .coded .code (f0 s))) (sep 𝓤 (A .bor κ (Body (mem (row R)) b o γ)) (A .lft κ q))) (Post (vA s)))
+        (exits : (s : D) → Says s → ent 𝓤 (sep 𝓤 (A .obs γ (row R .coded .code (f0 s))) (sep 𝓤 (A .bor κ (Body (mem (row R)) b o γ)) (A .lft κ q)))
+        (Post (vA s)))
         (C : Calls 𝓤 H) (Λ : Loops 𝓤 H) (fm : FmC 𝓤 H (W .laws) C) (known : ent 𝓤 Pre (C #callee (vR h ∷ vs) Post₀)) where
       abbrev Callee : Contract 𝓤
       Callee = record { Ghost = Unit {0}; args = λ _. vR h ∷ vs; pre = λ _. Pre; post = λ _. Post₀ }
 
-      pub walk : ent 𝓤 (sep 𝓤 (A .obs γ (row R .coded .code h)) (sep 𝓤 (A .bor κ (Body (mem (row R)) b o γ)) (A .lft κ q))) (WpFn 𝓤 H C Λ (lent τs) (vptr b o ∷ vs) Post)
+      pub walk : ent 𝓤 (sep 𝓤 (A .obs γ (row R .coded .code h)) (sep 𝓤 (A .bor κ (Body (mem (row R)) b o γ)) (A .lft κ q)))
+          (WpFn 𝓤 H C Λ (lent τs) (vptr b o ∷ vs) Post)
       walk =
           qed W (‵ (fobs γ (row R .coded .code h)) ∷ ‵ (fbor κ (Body (mem (row R)) b o γ)) ∷ ‵ (flft κ q) ∷ []) ∵
           enter ! C Λ (lent τs) (vptr b o ∷ vs) _ $
           alloc1 ! (λ l₀. alloc1 ! (λ l₁. alloc-all ! τs (λ bs. alloc1 ! (λ l₂. alloc1 ! (λ l₃. alloc0 ! $ params1 ! $
           pass1 ! (init ! 6 refl (tt, tt)) $ move ! (4 ∷ []) $ pass-all ! τs bs vs ty ((τS, l₂) ∷ (τR, l₃) ∷ []) $
-          move ! (10 ∷ 11 ∷ 12 ∷ []) $ opens ! tt (row R) {h = h} b o (λ xs. spelt ! (row R) (Is (row R)) (shows 𝓤 H A (row R)) (LL.vals R R′) (LL.tells R R′) fullShare h xs b o $
+          move ! (10 ∷ 11 ∷ 12 ∷ []) $ opens ! tt (row R) {h = h} b o
+          (λ xs. spelt ! (row R) (Is (row R)) (shows 𝓤 H A (row R)) (LL.vals R R′) (LL.tells R R′) fullShare h xs b o $
           move ! (1 ∷ []) $ facts ! (row R) (Is (row R)) (shows 𝓤 H A (row R)) h (vR h ∷ []) (λ isR.
-          -- [the record's cell; the open borrow; obs; auth; the arguments 4; the copy 5, 6; the result 7, 8; the arguments' ends 9; the reference 10, 11; _0 12, 13]
-          assigns ! (of-opd ! (load ! (from ! (hop ! (look ! 10 refl) (stop !))) (look-raw ! 0 refl))) (from-at ! (after-is 𝓤 H τs bs _ 1) (stop !)) (init ! 5 refl (LL.lawful R R′ 𝓤 H A W .typed h _ isR .0)) $
+          -- [the record's cell; the open borrow; obs; auth; the arguments 4; the copy 5, 6; the result 7, 8; the arguments' ends 9; the
+          -- reference 10, 11; _0 12, 13]
+          assigns ! (of-opd ! (load ! (from ! (hop ! (look ! 10 refl) (stop !))) (look-raw ! 0 refl))) (from-at ! (after-is 𝓤 H τs bs _ 1) (stop !))
+          (init ! 5 refl (LL.lawful R R′ 𝓤 H A W .typed h _ isR .0)) $
           nothing ! $ use1 W (raw Pre) (asks isR) $
           calls-at ! fm Callee (λ _. known) tt
           (and-then ! (load ! (from-at ! (after-is 𝓤 H τs bs _ 1) (stop !)) (look ! 6 refl))
           (all-opds ! 5 2 τs bs vs ty (at-next 𝓤 H _ _ 1 τs bs (at-next 𝓤 H _ _ 0 τs bs (at-head 𝓤 H τs bs _))) refl)) (λ v.
-          use1 W (later (some-of (λ (s : D). raw (fact 𝓤 (Got v (us s) (f0 s) (vA s) × Says s))))) (gives v) $ await ! tt $ pick ! (λ s. heard ! (Got v (us s) (f0 s) (vA s) × Says s) (λ g.
+          use1 W (later (some-of (λ (s : D). raw (fact 𝓤 (Got v (us s) (f0 s) (vA s) × Says s))))) (gives v) $ await ! tt $ pick !
+          (λ s. heard ! (Got v (us s) (f0 s) (vA s) × Says s) (λ g.
           land ! (from-at ! (after-is 𝓤 H τs bs _ 0) (stop !)) (init ! 7 refl (g .0 .typed)) $
           rewrite ! 7 (λ (y : Val). ‵ (fat fullShare τS l₂ 0 y)) (g .0 .is) refl $
-          assigns ! (of-opd ! (load ! (from-at ! (after-is 𝓤 H τs bs _ 0) (fld ! atR (stop !))) (reads-as ! (g .0 .held) (look-in ! 7 (sub ! i atR (whole !))))))
+          assigns ! (of-opd ! (load ! (from-at ! (after-is 𝓤 H τs bs _ 0) (fld ! atR (stop !)))
+          (reads-as ! (g .0 .held) (look-in ! 7 (sub ! i atR (whole !))))))
           (from ! (hop ! (look ! 10 refl) (stop !))) (store-raw ! 0 refl (LL.lawful R R′ 𝓤 H A W .typed (f0 s) _ (g .0 .fits) .0)) $
-          assigns ! (of-opd ! (load ! (from-at ! (after-is 𝓤 H τs bs _ 0) (fld ! atA (stop !))) (reads-as ! (g .0 .told) (look-in ! 7 (sub ! j atA (whole !)))))) (from ! (stop !)) (init ! 12 refl (g .0 .answer)) $
-          owned ! (row R) (Is (row R)) (LL.makes R R-plain 𝓤 H A) (f0 s) _ (g .0 .fits) $ move ! (1 ∷ 0 ∷ []) $ closes ! tt (row R) (f0 s) (vR (f0 s) ∷ []) b o $
+          assigns ! (of-opd ! (load ! (from-at ! (after-is 𝓤 H τs bs _ 0) (fld ! atA (stop !)))
+          (reads-as ! (g .0 .told) (look-in ! 7 (sub ! j atA (whole !)))))) (from ! (stop !)) (init ! 12 refl (g .0 .answer)) $
+          owned ! (row R) (Is (row R)) (LL.makes R R-plain 𝓤 H A) (f0 s) _ (g .0 .fits) $ move ! (1 ∷ 0 ∷ []) $ closes ! tt (row R) (f0 s)
+          (vR (f0 s) ∷ []) b o $
           -- [obs; the borrow; the token; the arguments 3; the copy 4, 5; the result 6, 7; the arguments' ends 8; the reference 9, 10; _0 11, 12]
           returns ! (look ! 11 refl) $ forget ! 4 refl $ forget ! 6 refl $ forget ! 9 refl $ forget ! 11 refl $
-          move ! (11 ∷ 12 ∷ []) $ free1 ! $ move ! (9 ∷ 10 ∷ []) $ free1 ! $ move ! (3 ∷ 8 ∷ []) $ free-all ! τs bs vs ty $ move ! (5 ∷ 6 ∷ []) $ free1 ! $ move ! (3 ∷ 4 ∷ []) $ free1 ! $ free0 ! $
+          move ! (11 ∷ 12 ∷ []) $ free1 ! $ move ! (9 ∷ 10 ∷ []) $ free1 ! $ move ! (3 ∷ 8 ∷ []) $ free-all ! τs bs vs ty $ move !
+          (5 ∷ 6 ∷ []) $ free1 ! $ move ! (3 ∷ 4 ∷ []) $ free1 ! $ free0 ! $
           by ! (exits s (g .1))))))))))))

@@ -37,6 +37,8 @@ advances = record {
 pub advance-spec : {M : Type 1} → stated.statement M
 unfolding code.routine
 advance-spec 𝓤 H 𝓜 𝓖 𝓡 =
-    stands advances (struct-arg P.the-type P′.the-laws P′.the-plain (λ x. tt) (λ x f. refl) ∷ enum-arg D.the-type D′.the-laws D′.the-plain tt (λ x. tt) (λ x f. refl) ∷ sint-arg w32 ∷ []) 𝓤 H 𝓜 𝓖 𝓡
+    stands advances (struct-arg P.the-type P′.the-laws P′.the-plain (λ x. tt) (λ x f. refl) ∷ enum-arg D.the-type D′.the-laws D′.the-plain tt
+    (λ x. tt) (λ x f. refl) ∷ sint-arg w32 ∷ []) 𝓤 H 𝓜 𝓖 𝓡
     code.env key.name callee.name callee.routine code.calls-power·advanced (code.unfolded 𝓤 H 𝓜 𝓡)
-    (λ h a x r. (toldAnswer x ≡ stepped (a .0) h (a .1 .0) (a .1 .1 .0) .answer) × (r ≡ stepped (a .0) h (a .1 .0) (a .1 .1 .0) .power)) (callee-thm.met 𝓤 H 𝓜 𝓖 𝓡)
+    (λ h a x r. (toldAnswer x ≡ stepped (a .0) h (a .1 .0) (a .1 .1 .0) .answer) × (r ≡ stepped (a .0) h (a .1 .0) (a .1 .1 .0) .power))
+    (callee-thm.met 𝓤 H 𝓜 𝓖 𝓡)

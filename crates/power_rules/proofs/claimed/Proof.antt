@@ -6,7 +6,25 @@ use Rattle.power_rules.proofs.claimed.Statement.{statement}
 use Rattle.power_rules.proofs.claimed.Tie as tie
 
 returns : tie.Need-returns
-returns c = (startsWellFormed, (staysWellFormed, (refusedKeepsRecord, (testKeepsRecord, (sendsWithinLimits, (roundsDown, (refusalRule, (startRule, (stepRule, (answersTold, answersDiffer))))))))))
+returns c = (
+  startsWellFormed,
+  (
+    staysWellFormed,
+    (
+      refusedKeepsRecord,
+      (
+        testKeepsRecord,
+        (
+          sendsWithinLimits,
+          (
+            roundsDown,
+            (refusalRule, (startRule, (stepRule, (answersTold, answersDiffer)))),
+          ),
+        ),
+      ),
+    ),
+  ),
+)
 
 pub claimed-spec : {M : Type 1} → statement M
 claimed-spec = tie.close (tie.spec returns)
