@@ -23,4 +23,5 @@ pub mod Verdict
 pub mod Mean
 pub mod Unchanged
 pub mod Follows
+pub mod Places
 pub mod Told

@@ -212,6 +212,17 @@ pub record LeftAsItWas (w : Watch) : Type 0 where
 abbrev pub Unchanged : Type 0
 Unchanged = (w : Watch) → LeftAsItWas w
 
+-- the list of the record, in its own order, which no answer shows. "New list: replaces the neighbours."; "the old serving channel takes its
+-- place in the list": of every record, where the call is accepted
+pub record ListOrder (w : Watch) : Type 0 where
+  pub lists : (s : ℕ) (l m : List ℕ) → called w (newList m) .answer ≡ gives accepted → channels (rows w) ≡ s ∷ l
+      → channels (rows (called w (newList m) .watch)) ≡ s ∷ m
+  pub moves : (s c : ℕ) (l m : List ℕ) → called w (move c) .answer ≡ gives accepted → channels (rows w) ≡ s ∷ (l ++ c ∷ m)
+      → channels (rows (called w (move c) .watch)) ≡ c ∷ (l ++ s ∷ m)
+
+abbrev pub ListRule : Type 0
+ListRule = (w : Watch) → ListOrder w
+
 -- ---- the rules that record and plain watch share, in document 01's words, without the definitions of `Rules`
 
 -- "Each call is given the watch as the one before left it": record and plain watch after one call more, and the answer that it adds

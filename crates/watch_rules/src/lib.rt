@@ -1,6 +1,6 @@
 // The neighbour watch: its record and what its calls answer. Document 01, sections The watch and The plain watch.
 // The rules, the plain watch and demand 3 stand in specs/; the calls stand in the crate `watch`.
-ghost use Rattle.watch_rules.specs.Claims.{Demand3, WellFormedIsReachable, ItFollows, Unchanged, UnformedRule, SequenceRule, PlainRule, LevelsRule, RefusalRule, AcceptedRule, AskRule, VerdictRule, PartRule, WordsRule, AnswersTold, AnswersDiffer};
+ghost use Rattle.watch_rules.specs.Claims.{Demand3, WellFormedIsReachable, ItFollows, Unchanged, UnformedRule, ListRule, SequenceRule, PlainRule, LevelsRule, RefusalRule, AcceptedRule, AskRule, VerdictRule, PartRule, WordsRule, AnswersTold, AnswersDiffer};
 use refusal::Refusal;
 
 // How many levels of a channel make a mean and a sum: older ones go.
@@ -56,6 +56,7 @@ pub fn claimed()
     ensures follows { λ _. ⌜ ItFollows ⌝ }
     ensures unchanged { λ _. ⌜ Unchanged ⌝ }
     ensures unformed { λ _. ⌜ UnformedRule ⌝ }
+    ensures listed { λ _. ⌜ ListRule ⌝ }
     ensures sequence { λ _. ⌜ SequenceRule ⌝ }
     ensures plain { λ _. ⌜ PlainRule ⌝ }
     ensures kept { λ _. ⌜ LevelsRule ⌝ }

@@ -5,6 +5,7 @@ use Rattle.watch_rules.proofs.Demand3.{demand3}
 use Rattle.watch_rules.proofs.Reach.{wellFormedIsReachable}
 use Rattle.watch_rules.proofs.Unchanged.{unchanged}
 use Rattle.watch_rules.proofs.Follows.{itFollows, unformedRule}
+use Rattle.watch_rules.proofs.Places.{listRule}
 use Rattle.watch_rules.proofs.Sequence.{sequenceRule}
 use Rattle.watch_rules.proofs.PlainSteps.{plainRule}
 use Rattle.watch_rules.proofs.Verdict.{verdictRule, partRule}
@@ -25,10 +26,13 @@ returns c = (
         (
           unformedRule,
           (
-            sequenceRule,
+            listRule,
             (
-              plainRule,
-              (levelsRule, (refusalRule, (acceptedRule, (askRule, (verdictRule, (partRule, (wordsRule, (answersTold, answersDiffer)))))))),
+              sequenceRule,
+              (
+                plainRule,
+                (levelsRule, (refusalRule, (acceptedRule, (askRule, (verdictRule, (partRule, (wordsRule, (answersTold, answersDiffer)))))))),
+              ),
             ),
           ),
         ),
