@@ -1,15 +1,17 @@
-// How a Rattle program makes the calls: a reading, a sweep with a choice over it, a watch, and power steps. Each function below says what its
-// part answered on a line of its own.
+// How a Rattle program makes each call: a reading and back, a sweep with a choice over it, a watch, and a power step. Each answer is a line.
 use choice::Choice;
 use power::Decoded;
 use power::PowerParameters;
 use readings::Burst;
 use readings::Hundredths;
 use readings::Reading;
+use readings::Shown;
+use refusal::Outcome;
 use refusal::Refusal;
+use sweep::NextChannel;
+use sweep::Numbers;
 use sweep::Sweep;
 use watch_rules::Answer;
-use watch_rules::Watch;
 
 fn say(what: &[u8], n: u64) {
     io::write_all(1, what);
@@ -21,20 +23,26 @@ fn say_refused(why: Refusal) {
     say(b"refused ", refusal::number(why) as u64);
 }
 
-fn heard(level: f32, quality: f32) -> Burst {
-    Burst::Heard(Reading { level, quality })
+fn say_outcome(what: &[u8], outcome: Outcome) {
+    match outcome {
+        Outcome::Accepted => {
+            io::write_all(1, what);
+        }
+        Outcome::Refused(why) => say_refused(why),
+    }
 }
 
-// A level in whole hundredths of a dB.
+// A level in whole hundredths of a dB, shown as a float again.
 fn say_level(x: f32) {
     match readings::level_to_hundredths(x) {
-        Hundredths::Value(h) => {
-            if h < -9_000 {
-                io::write_all(1, b"below -90 dBm\n");
-            } else {
-                io::write_all(1, b"-90 dBm or more\n");
+        Hundredths::Value(h) => match readings::level_to_float(h) {
+            Shown::Value(back) => {
+                if back == x {
+                    io::write_all(1, b"level read back\n");
+                }
             }
-        }
+            Shown::Refused(why) => say_refused(why),
+        },
         Hundredths::Refused(why) => say_refused(why),
     }
 }
@@ -42,23 +50,51 @@ fn say_level(x: f32) {
 // What the modem gave on a channel: two beams are heard, every other burst is missed.
 fn burst_on(channel: u16) -> Burst {
     if channel == 42 {
-        return heard(-94.25, 9.0);
+        return Burst::Heard(Reading {
+            level: -94.25,
+            quality: 9.0,
+        });
     }
     if channel == 310 {
-        return heard(-97.5, 8.5);
+        return Burst::Heard(Reading {
+            level: -97.5,
+            quality: 8.5,
+        });
     }
     Burst::Missed
 }
 
+// Files a burst for the next channel. The answer is copied before a `match` or a `let .. else` on it.
+fn with_next(s: Sweep) -> Sweep {
+    let n = sweep::next(s);
+    let answer = n.answer;
+    let NextChannel::Channel(c) = answer else {
+        return n.sweep;
+    };
+    let o = sweep::file(n.sweep, c, burst_on(c));
+    o.sweep
+}
+
 fn swept() -> Sweep {
     let mut s = sweep::fresh();
-    let mut c: u16 = 2;
-    while c < 1087 {
-        let o = sweep::file(s, c, burst_on(c));
-        s = o.sweep;
-        c += 1;
+    let mut filed: usize = 0;
+    while filed < 1_085 {
+        s = with_next(s);
+        filed += 1;
     }
     s
+}
+
+fn say_counts(s: Sweep) {
+    let n = sweep::counts(s);
+    let answer = n.answer;
+    match answer {
+        Numbers::Of { visited, heard } => {
+            say(b"visited ", visited as u64);
+            say(b"heard ", heard as u64);
+        }
+        Numbers::Refused(why) => say_refused(why),
+    }
 }
 
 // The margin is in hundredths; nothing was read on any channel yet.
@@ -74,55 +110,71 @@ fn say_choice(s: Sweep) {
     }
 }
 
-// Fifteen levels make a verdict.
-fn filed(w: Watch, channel: u16, level: f32) -> Watch {
-    let mut v = w;
-    let mut i: usize = 0;
-    while i < 15 {
-        let h = watch::file(v, channel, heard(level, 8.5));
-        v = h.watch;
-        i += 1;
-    }
-    v
+// A record that was kept is tested before it is used again.
+fn say_sweep() {
+    let s = swept();
+    let o = sweep::check(s);
+    let answer = o.answer;
+    say_outcome(b"sweep well formed\n", answer);
+    say_counts(s);
+    say_choice(s);
 }
 
-fn say_verdict(w: Watch) {
-    // The hysteresis is in hundredths.
-    let h = watch::verdict(w, 300);
-    let answer = h.answer;
+// Every answer of a call on a watch.
+fn say_watch(answer: Answer) {
     match answer {
-        Answer::MoveTo(channel) => say(b"move to ", channel as u64),
+        Answer::Accepted => {
+            io::write_all(1, b"accepted\n");
+        }
         Answer::Refused(why) => say_refused(why),
-        _ => say(b"stay on ", 310),
+        Answer::Levels { count, mean: _ } => say(b"levels ", count as u64),
+        Answer::Wait => {
+            io::write_all(1, b"wait\n");
+        }
+        Answer::Stay => {
+            io::write_all(1, b"stay\n");
+        }
+        Answer::MoveTo(channel) => say(b"move to ", channel as u64),
     }
 }
 
-fn watched() -> Watch {
+// Each call hands its watch on to the next. The hysteresis is in hundredths; until the serving channel has 15 levels, the verdict is to wait.
+fn say_watched() {
     let h = watch::start(watch::fresh(), 310);
-    let w = h.watch;
     let list = [118u16, 42, 205];
-    let h = watch::new_list(w, &list);
-    let w = h.watch;
-    filed(filed(w, 310, -97.5), 42, -94.25)
+    let h = watch::new_list(h.watch, &list);
+    let h = watch::file(h.watch, 42, burst_on(42));
+    let h = watch::ask(h.watch, 42);
+    let answer = h.answer;
+    say_watch(answer);
+    let h = watch::verdict(h.watch, 300);
+    let answer = h.answer;
+    say_watch(answer);
+    let h = watch::move_to(h.watch, 42);
+    let answer = h.answer;
+    say_watch(answer);
+    let h = watch::check(h.watch);
+    let answer = h.answer;
+    say_watch(answer);
 }
 
 fn parameters() -> PowerParameters {
     PowerParameters {
-        sqt: 85,
-        paninit: 30,
-        panmin: 0,
-        panmax: 60,
-        gainup: 10,
-        gaindn: 10,
-        mestep: 3,
+        sqt: 80,
+        paninit: 24,
+        panmin: 4,
+        panmax: 56,
+        gainup: 12,
+        gaindn: 8,
+        mestep: 2,
     }
 }
 
+// The quality SQI is in hundredths. The record goes from step to step.
 fn say_power() {
     let p = parameters();
     let h = power::start(p);
-    let r = h.power;
-    let s = power::step(p, r, Decoded::Codes { pan: 20, par: 20 }, 850);
+    let s = power::step(p, h.power, Decoded::Codes { pan: 20, par: 20 }, 850);
     let answer = s.answer;
     match answer {
         power::Answer::Send { par, pan } => {
@@ -131,11 +183,14 @@ fn say_power() {
         }
         power::Answer::Refused(why) => say_refused(why),
     }
+    let h = power::check(s.power);
+    let answer = h.answer;
+    say_outcome(b"power record well formed\n", answer);
 }
 
 fn main() {
     say_level(-97.25);
-    say_choice(swept());
-    say_verdict(watched());
+    say_sweep();
+    say_watched();
     say_power();
 }
