@@ -1,6 +1,6 @@
-// Document 01's examples and faulty inputs that are run and compared. Each line of standard input is a case, or a comment: it is written again, and
-// after a case each call's answer, in the words of a session file. Beside the answer of a call on a record stands whether the record that came
-// back is the same as the one given.
+// Document 01's examples and faulty inputs that are run and compared. Standard input is the table of cases, with comments that say what is called.
+// Each line is written again, and after a case what each call answers, in the words of a session file. A call on a record also says whether
+// the record that it handed back is the one that it was given.
 use libc::STDIN_FILENO;
 use libc::STDOUT_FILENO;
 use power::Decoded;
@@ -25,7 +25,7 @@ use session_file::with_signed;
 use session_numbers::ChannelWord;
 use session_numbers::IntWord;
 use session_numbers::NumWord;
-use session_words::Words;
+use session_words::WORDS;
 use session_words::place_of;
 use session_words::same;
 use session_words::split;
@@ -34,27 +34,39 @@ use sweep::CHANNELS;
 use sweep::Sweep;
 use watch_rules::CAPACITY;
 use watch_rules::Handed;
+use watch_rules::ROOM;
 use watch_rules::Watch;
 ghost use Prim.Native.Nat.{_≤_};
 ghost use lib.ListN.{length};
 
 // The numbers of a case. A word that is none stands for a number that no case has.
-fn natural(line: &[u8], words: Words, k: usize) -> u16 {
-    match session_numbers::channel(word(line, words, k)) {
+fn natural(word: &[u8]) -> u16 {
+    match session_numbers::channel(word) {
         ChannelWord::Number(n) => n,
         ChannelWord::Malformed => u16::MAX,
     }
 }
 
-fn whole(line: &[u8], words: Words, k: usize) -> i32 {
-    match session_numbers::int(word(line, words, k)) {
+fn naturals(line: &[u8]) -> [u16; WORDS] {
+    let words = split(line);
+    let mut n = [0; WORDS];
+    let mut k = 0;
+    while k < WORDS {
+        n[k] = natural(word(line, words, k));
+        k += 1;
+    }
+    n
+}
+
+fn whole(line: &[u8], k: usize) -> i32 {
+    match session_numbers::int(word(line, split(line), k)) {
         IntWord::Value(n) => n,
         IntWord::Malformed => i32::MIN,
     }
 }
 
-fn float(line: &[u8], words: Words, k: usize) -> f32 {
-    match session_numbers::num(word(line, words, k)) {
+fn float(line: &[u8], k: usize) -> f32 {
+    match session_numbers::num(word(line, split(line), k)) {
         NumWord::Value(x) => x,
         NumWord::Malformed => 1_000.0,
     }
@@ -72,9 +84,9 @@ fn say(answer: Text) {
     say_first_line(&bytes);
 }
 
-fn say_with(answer: Text, same: bool) {
+fn say_beside(answer: Text, unchanged: bool) {
     say(answer);
-    if same {
+    if unchanged {
         io::write_all(STDOUT_FILENO, b", same");
     } else {
         io::write_all(STDOUT_FILENO, b", changed");
@@ -112,7 +124,7 @@ fn say_hundredths(h: i32) {
     say(of_hundredths(readings::quality_read_back(h)));
 }
 
-// Every channel's level, and the words of both maps that it has its bits in.
+// Each channel's level, and the words of both maps that have its bit.
 fn same_sweep(a: Sweep, b: Sweep) -> bool {
     let mut c = 0;
     while c < CHANNELS {
@@ -128,7 +140,7 @@ fn same_sweep(a: Sweep, b: Sweep) -> bool {
 }
 
 fn say_sweep(given: Sweep, answer: Text, back: Sweep) {
-    say_with(answer, same_sweep(given, back));
+    say_beside(answer, same_sweep(given, back));
 }
 
 fn say_choice(s: Sweep, outcomes: &[u8]) {
@@ -155,25 +167,26 @@ fn say_sweep_calls(s: Sweep) {
     say_choice(s, &outcomes);
 }
 
-// A word of a map with one bit of it set or cleared.
-fn with_bit(word: u64, channel: usize, bit: u16) -> u64 {
+// A word of a map, with a channel's bit set or cleared.
+fn with_bit(map: u64, channel: usize, bit: u16) -> u64 {
     let k = channel % 64;
-    (word & !(1u64 << k)) | (((bit % 2) as u64) << k)
+    (map & !(1u64 << k)) | (((bit % 2) as u64) << k)
 }
 
-// A channel's level, its bit in the map of visited channels and its bit in the map of heard ones, in a sweep that heard channel 100 alone.
-fn swept(channel: usize, level: i32, visited: u16, heard_bit: u16) -> Sweep {
+// A sweep that heard channel 100 alone; then a channel's level and its bits in the two maps are set.
+fn swept(n: [u16; WORDS], level: i32) -> Sweep {
     let o = sweep::file(sweep::fresh(), 100, heard(-90.0, 10.0));
     let mut s = o.sweep;
-    if channel < CHANNELS {
-        s.levels[channel] = level;
-        s.visited[channel / 64] = with_bit(s.visited[channel / 64], channel, visited);
-        s.heard[channel / 64] = with_bit(s.heard[channel / 64], channel, heard_bit);
+    let c = n[1] as usize;
+    if c < CHANNELS {
+        s.levels[c] = level;
+        s.visited[c / 64] = with_bit(s.visited[c / 64], c, n[3]);
+        s.heard[c / 64] = with_bit(s.heard[c / 64], c, n[4]);
     }
     s
 }
 
-// A finished sweep that heard nothing: the channels 2 to 1,086 visited.
+// A sweep that visited the channels 2 to 1,086 and heard none.
 fn finished() -> Sweep {
     let mut visited = [0xffff_ffff_ffff_ffffu64; 17];
     visited[0] = 0xffff_ffff_ffff_fffc;
@@ -183,24 +196,25 @@ fn finished() -> Sweep {
     s
 }
 
-// A choice with an outcome string of so many bytes, all 0 but these two: the ones of channel 0 and of channel 1,087.
-fn say_outcomes(length: usize, first: u16, last: u16) {
+// So many outcome bytes, all 0 but those of the channels 0 and 1,087.
+fn say_outcomes_case(n: [u16; WORDS]) {
     let mut outcomes = [0u8; 1089];
-    outcomes[0] = (first % 256) as u8;
-    outcomes[1087] = (last % 256) as u8;
+    outcomes[0] = (n[2] % 256) as u8;
+    outcomes[1087] = (n[3] % 256) as u8;
+    let length = n[1] as usize;
     if length <= 1089 {
         say_choice(finished(), &outcomes[0..length]);
     }
 }
 
-// Every level of every track, and the track's channel and count.
+// Each level of each track, and the track's channel and count.
 fn same_watch(a: Watch, b: Watch) -> bool {
     let mut i = 0;
-    while i < 7 * CAPACITY {
+    while i < ROOM * CAPACITY {
         let x = a.tracks[i / CAPACITY];
         let y = b.tracks[i / CAPACITY];
         let level = x.levels[i % CAPACITY] == y.levels[i % CAPACITY];
-        if !((x.channel == y.channel) & (x.count == y.count) & level) {
+        if !(level & (x.channel == y.channel) & (x.count == y.count)) {
             return false;
         }
         i += 1;
@@ -209,9 +223,8 @@ fn same_watch(a: Watch, b: Watch) -> bool {
 }
 
 fn say_watch(given: Watch, h: Handed) {
-    let back = h.watch;
     let a = h.answer;
-    say_with(of_watch(a), same_watch(given, back));
+    say_beside(of_watch(a), same_watch(given, h.watch));
 }
 
 // Every call on a watch.
@@ -226,56 +239,53 @@ fn say_watch_calls(w: Watch) {
     say_watch(w, watch::verdict(w, 299));
 }
 
-fn watching(list: &[u16]) -> Watch {
+// Channel 100 serves, and so many levels of -10,000 are filed for it.
+fn watching(list: &[u16], times: usize) -> Watch {
     let h = watch::start(watch::fresh(), 100);
     let h = watch::new_list(h.watch, list);
-    h.watch
+    filed(h.watch, 100, -100.0, times)
 }
 
-// Document 01's example: the serving channel 14 times at -10,000, a neighbour 15 times at -9,700. A second neighbour has no level.
-fn sound() -> Watch {
-    let list = [200u16, 300];
-    let mut w = watching(&list);
-    let mut i: usize = 0;
-    while i < 15 {
-        if i < 14 {
-            let h = watch::file(w, 100, heard(-100.0, 10.0));
-            w = h.watch;
-        }
-        let h = watch::file(w, 200, heard(-97.0, 10.0));
-        w = h.watch;
+fn filed(w: Watch, channel: u16, level: f32, times: usize) -> Watch {
+    let mut v = w;
+    let mut i = 0;
+    while i < times {
+        let h = watch::file(v, channel, heard(level, 10.0));
+        v = h.watch;
         i += 1;
     }
-    w
+    v
 }
 
-// The watch that a case begins with.
+// The watch that a case begins with: document 01's example with 14 levels in the serving channel, one with all tracks in use, or an idle one.
 fn watch_of(name: &[u8]) -> Watch {
     if same(name, b"sound") {
-        return sound();
+        let list = [200u16, 300];
+        return filed(watching(&list, 14), 200, -97.0, 15);
     }
     if same(name, b"full") {
         let list = [200u16, 0, 1, 2, 3, 1087];
-        return watching(&list);
+        return watching(&list, 0);
     }
     watch::fresh()
 }
 
-// A track's channel, its count and one of its levels.
-fn with_track(w: Watch, place: usize, channel: u16, count: usize, at: usize, level: i32) -> Watch {
-    if place >= 7 {
-        return w;
+// The number of tracks in use, and a track's channel, its count and one of its levels.
+fn watched(from: Watch, n: [u16; WORDS], level: i32) -> Watch {
+    let mut w = from;
+    w.watched = n[2] as usize;
+    let place = n[3] as usize;
+    let at = n[6] as usize;
+    if place < ROOM {
+        if at < CAPACITY {
+            let mut t = w.tracks[place];
+            t.channel = n[4];
+            t.count = n[5] as usize;
+            t.levels[at] = level;
+            w.tracks[place] = t;
+        }
     }
-    if at >= CAPACITY {
-        return w;
-    }
-    let mut v = w;
-    let mut t = v.tracks[place];
-    t.channel = channel;
-    t.count = count;
-    t.levels[at] = level;
-    v.tracks[place] = t;
-    v
+    w
 }
 
 fn same_power(a: PowerRecord, b: PowerRecord) -> bool {
@@ -298,82 +308,49 @@ fn say_power_calls(r: PowerRecord) {
     };
     let h = power::check(r);
     let a = h.answer;
-    say_with(of_outcome(a), same_power(r, h.power));
+    say_beside(of_outcome(a), same_power(r, h.power));
     let s = power::step(p, r, Decoded::Codes { pan: 20, par: 20 }, 850);
     let a = s.answer;
-    say_with(of_power(a), same_power(r, s.power));
+    say_beside(of_power(a), same_power(r, s.power));
 }
 
-fn say_watch_case(line: &[u8], words: Words) {
-    let mut w = with_track(
-        watch_of(word(line, words, 1)),
-        natural(line, words, 3) as usize,
-        natural(line, words, 4),
-        natural(line, words, 5) as usize,
-        natural(line, words, 6) as usize,
-        whole(line, words, 7),
-    );
-    w.watched = natural(line, words, 2) as usize;
-    say_watch_calls(w);
-}
-
-fn say_sweep_case(line: &[u8], words: Words) {
-    let channel = natural(line, words, 1) as usize;
-    let level = whole(line, words, 2);
-    let visited = natural(line, words, 3);
-    let heard_bit = natural(line, words, 4);
-    say_sweep_calls(swept(channel, level, visited, heard_bit));
-}
-
-fn say_outcomes_case(line: &[u8], words: Words) {
-    let length = natural(line, words, 1) as usize;
-    say_outcomes(length, natural(line, words, 2), natural(line, words, 3));
-}
-
-fn say_power_case(line: &[u8], words: Words) {
+fn say_power_case(n: [u16; WORDS]) {
     say_power_calls(PowerRecord {
-        panlast: natural(line, words, 1) as u32,
-        parsave: natural(line, words, 2) as u32,
-        panbasic: natural(line, words, 3) as u32,
-        increase: natural(line, words, 4) as u32,
+        panlast: n[1] as u32,
+        parsave: n[2] as u32,
+        panbasic: n[3] as u32,
+        increase: n[4] as u32,
     });
 }
 
-// What the calls of a case answer, by its first word.
-fn say_answers(line: &[u8]) {
-    let words = split(line);
-    let kind = word(line, words, 0);
-    if same(kind, b"float") {
-        say_float(float(line, words, 1));
+// What the calls of a case answer. Its first byte says which kind it is.
+fn say_answers(case: &[u8]) {
+    if case.len() == 0 {
+        return;
     }
-    if same(kind, b"hundredths") {
-        say_hundredths(whole(line, words, 1));
-    }
-    if same(kind, b"missed") {
-        say(of_burst(Burst::Missed));
-    }
-    if same(kind, b"sweep") {
-        say_sweep_case(line, words);
-    }
-    if same(kind, b"outcomes") {
-        say_outcomes_case(line, words);
-    }
-    if same(kind, b"watch") {
-        say_watch_case(line, words);
-    }
-    if same(kind, b"power") {
-        say_power_case(line, words);
+    let kind = case[0];
+    let n = naturals(case);
+    match kind {
+        b'f' => say_float(float(case, 1)),
+        b'h' => say_hundredths(whole(case, 1)),
+        b'm' => say(of_burst(Burst::Missed)),
+        b's' => say_sweep_calls(swept(n, whole(case, 2))),
+        b'o' => say_outcomes_case(n),
+        b'w' => say_watch_calls(watched(watch_of(word(case, split(case), 1)), n, whole(case, 7))),
+        b'p' => say_power_case(n),
+        _ => {}
     }
 }
 
-// Writes the first line with its answers, and answers where it ends.
+// Writes the first line with its answers; gives the place of its end. A comment begins with #.
 fn say_case(table: &[u8]) -> usize
     ensures { λ r. ⌜ r ≤ length (now (table .entry)) ⌝ }
 {
     let p = place_of(table, b'\n');
     let line = &table[0..p];
     io::write_all(STDOUT_FILENO, line);
-    say_answers(line);
+    let k = place_of(line, b'#');
+    say_answers(&line[0..k]);
     io::write_all(STDOUT_FILENO, b"\n");
     p
 }

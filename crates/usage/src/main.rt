@@ -38,7 +38,9 @@ fn say_level(x: f32) {
         Hundredths::Value(h) => match readings::level_to_float(h) {
             Shown::Value(back) => {
                 if back == x {
-                    io::write_all(1, b"level read back\n");
+                    io::write_all(1, b"level shown as it was\n");
+                } else {
+                    io::write_all(1, b"level shown rounded\n");
                 }
             }
             Shown::Refused(why) => say_refused(why),
