@@ -49,18 +49,12 @@ fn say_level(x: f32) {
     }
 }
 
-// What the modem gave on a channel: two beams are heard, every other burst is missed.
+// What the modem gave on a channel: one beam is heard, every other burst is missed.
 fn burst_on(channel: u16) -> Burst {
     if channel == 42 {
         return Burst::Heard(Reading {
             level: -94.25,
             quality: 9.0,
-        });
-    }
-    if channel == 310 {
-        return Burst::Heard(Reading {
-            level: -97.5,
-            quality: 8.5,
         });
     }
     Burst::Missed
@@ -112,7 +106,7 @@ fn say_choice(s: Sweep) {
     }
 }
 
-// A record that was kept is tested before it is used again.
+// A record that was kept by the caller can be tested.
 fn say_sweep() {
     let s = swept();
     let o = sweep::check(s);
@@ -140,7 +134,8 @@ fn say_watch(answer: Answer) {
     }
 }
 
-// Each call hands its watch on to the next. The hysteresis is in hundredths; until the serving channel has 15 levels, the verdict is to wait.
+// Each call hands its watch on to the next. The hysteresis is in hundredths. While the serving channel has fewer than 15 levels, the verdict is
+// to wait.
 fn say_watched() {
     let h = watch::start(watch::fresh(), 310);
     let list = [118u16, 42, 205];
@@ -160,8 +155,9 @@ fn say_watched() {
     say_watch(answer);
 }
 
-fn parameters() -> PowerParameters {
-    PowerParameters {
+// The parameters are codes, and the quality SQI is in hundredths. A step hands on the record that it was given, advanced.
+fn say_power() {
+    let p = PowerParameters {
         sqt: 80,
         paninit: 24,
         panmin: 4,
@@ -169,12 +165,7 @@ fn parameters() -> PowerParameters {
         gainup: 12,
         gaindn: 8,
         mestep: 2,
-    }
-}
-
-// The quality SQI is in hundredths. The record goes from step to step.
-fn say_power() {
-    let p = parameters();
+    };
     let h = power::start(p);
     let s = power::step(p, h.power, Decoded::Codes { pan: 20, par: 20 }, 850);
     let answer = s.answer;
