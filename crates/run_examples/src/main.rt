@@ -239,13 +239,6 @@ fn say_watch_calls(w: Watch) {
     say_watch(w, watch::verdict(w, 299));
 }
 
-// Channel 100 serves, and so many levels of -10,000 are filed for it.
-fn watching(list: &[u16], times: usize) -> Watch {
-    let h = watch::start(watch::fresh(), 100);
-    let h = watch::new_list(h.watch, list);
-    filed(h.watch, 100, -100.0, times)
-}
-
 fn filed(w: Watch, channel: u16, level: f32, times: usize) -> Watch {
     let mut v = w;
     let mut i = 0;
@@ -255,6 +248,13 @@ fn filed(w: Watch, channel: u16, level: f32, times: usize) -> Watch {
         i += 1;
     }
     v
+}
+
+// Channel 100 serves, and so many levels of -10,000 are filed for it.
+fn watching(list: &[u16], times: usize) -> Watch {
+    let h = watch::start(watch::fresh(), 100);
+    let h = watch::new_list(h.watch, list);
+    filed(h.watch, 100, -100.0, times)
 }
 
 // The watch that a case begins with: document 01's example with 14 levels in the serving channel, one with all tracks in use, or an idle one.
