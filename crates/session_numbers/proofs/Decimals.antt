@@ -12,7 +12,7 @@ use lib.Dec.{T, leb, le→leb}
 use lib.IntN.{pos}
 use lib.Ieee.{Float, binary32, inFloat}
 use borrow.Author.Tests.{le-leb, lt-leb, lt-ltb, le-ltb, leb-true}
-use Rattle.session_words.specs.Bytes.{placeOf}
+use Rattle.bytes.specs.Bytes.{indexOf}
 use Rattle.session_numbers.specs.Numbers.{also, point, isRun, valueAfter, valueOf, digitsOf, decimalDigits, quotient, fractionOf, unsignedOf}
 use Rattle.session_words.proofs.Lists.{cond-true, cond-false}
 
@@ -77,7 +77,8 @@ unfolding fractionOf
 fraction-by s t e = sym (cond-false _ _ e)
 
 pub fraction-long : (s t : List ℕ) → decimalDigits < length s → none ≡ fractionOf s t
-fraction-long s t h = fraction-by s t (ap (λ x. isRun s && isRun t && x) (lt-leb (length s + length t) decimalDigits (omega arith)) ∙ nothing (isRun s && isRun t))
+fraction-long s t h =
+    fraction-by s t (ap (λ x. isRun s && isRun t && x) (lt-leb (length s + length t) decimalDigits (omega arith)) ∙ nothing (isRun s && isRun t))
   where
     nothing : (x : Bool) → (x && false) ≡ false
     nothing true = refl
@@ -85,7 +86,8 @@ fraction-long s t h = fraction-by s t (ap (λ x. isRun s && isRun t && x) (lt-le
 
 pub fraction-first : (s t : List ℕ) → length s ≤ decimalDigits → none ≡ digitsOf decimalDigits s → none ≡ fractionOf s t
 fraction-first s t h e =
-    fraction-by s t (ap (λ x. x && isRun t && leb (length s + length t) decimalDigits) (sym (whole (isRun s)) ∙ ap (λ x. isRun s && x) (sym (le-leb _ _ h)) ∙ run-none decimalDigits s e))
+    fraction-by s t (ap (λ x. x && isRun t && leb (length s + length t) decimalDigits) (sym (whole (isRun s)) ∙ ap (λ x. isRun s && x) (sym (le-leb _ _ h))
+    ∙ run-none decimalDigits s e))
   where
     whole : (x : Bool) → (x && true) ≡ x
     whole true = refl
@@ -101,26 +103,30 @@ room-is m n k h = go (decLe (m + n) k)
 
 pub fraction-second : (s t : List ℕ) → length s ≤ decimalDigits → none ≡ digitsOf (decimalDigits - length s) t → none ≡ fractionOf s t
 fraction-second s t h e =
-    fraction-by s t (first (isRun s) (isRun t) (leb (length s + length t) decimalDigits) (ap (λ x. isRun t && x) (sym (room-is (length s) (length t) decimalDigits h)) ∙ run-none (decimalDigits - length s) t e))
+    fraction-by s t (first (isRun s) (isRun t) (leb (length s + length t) decimalDigits)
+    (ap (λ x. isRun t && x) (sym (room-is (length s) (length t) decimalDigits h)) ∙ run-none (decimalDigits - length s) t e))
   where
     first : (a b c : Bool) → (b && c) ≡ false → (a && b && c) ≡ false
     first true b c e = e
     first false b c e = refl
 
-pub fraction-both : (s t : List ℕ) (b a : ℕ) (x : Float) → Run decimalDigits s b → Run (decimalDigits - length s) t a → x ≡ quotient (b * 10 ^ length t + a) (length t) → some x ≡ fractionOf s t
+pub fraction-both : (s t : List ℕ) (b a : ℕ) (x : Float) → Run decimalDigits s b → Run (decimalDigits - length s) t a
+    → x ≡ quotient (b * 10 ^ length t + a) (length t) → some x ≡ fractionOf s t
 unfolding fractionOf
 fraction-both s t b a x p q e =
     let l : length s + length t ≤ decimalDigits = omega arith in
-    ap some (e ∙ ap (λ y. quotient (y * 10 ^ length t + a) (length t)) (p .value) ∙ ap (λ y. quotient (valueOf s * 10 ^ length t + y) (length t)) (q .value) ∙ ap (λ y. quotient y (length t)) (value-joined s t))
-    ∙ sym (cond-true _ _ (ap (λ y. y && isRun t && leb (length s + length t) decimalDigits) (p .is) ∙ ap (λ y. y && leb (length s + length t) decimalDigits) (q .is) ∙ le-leb _ _ l))
+    ap some (e ∙ ap (λ y. quotient (y * 10 ^ length t + a) (length t)) (p .value) ∙ ap (λ y. quotient (valueOf s * 10 ^ length t + y) (length t)) (q .value)
+    ∙ ap (λ y. quotient y (length t)) (value-joined s t))
+    ∙ sym (cond-true _ _ (ap (λ y. y && isRun t && leb (length s + length t) decimalDigits) (p .is)
+    ∙ ap (λ y. y && leb (length s + length t) decimalDigits) (q .is) ∙ le-leb _ _ l))
 
 -- ---- with a point and without
 
-pub unsigned-point : (s : List ℕ) → placeOf point s < length s → fractionOf (take (placeOf point s) s) (drop (suc (placeOf point s)) s) ≡ unsignedOf s
+pub unsigned-point : (s : List ℕ) → indexOf point s < length s → fractionOf (take (indexOf point s) s) (drop (suc (indexOf point s)) s) ≡ unsignedOf s
 unfolding unsignedOf
 unsigned-point s h = sym (cond-true _ _ (lt-ltb _ _ h))
 
-pub unsigned-plain : (s : List ℕ) → length s ≤ placeOf point s → also (λ v. quotient v 0) (digitsOf decimalDigits s) ≡ unsignedOf s
+pub unsigned-plain : (s : List ℕ) → length s ≤ indexOf point s → also (λ v. quotient v 0) (digitsOf decimalDigits s) ≡ unsignedOf s
 unfolding unsignedOf
 unsigned-plain s h = sym (cond-false _ _ (le-ltb _ _ h))
 

@@ -44,11 +44,15 @@ also-same (some a) = refl
 module _ (highest : ℕ) (s : List ℕ) where
   pub natural-within : (v : ℕ) → some (pos v) ≡ wholeOf s → v ≤ highest → some v ≡ naturalOf highest s
   unfolding naturalOf
-  natural-within v e h = sym (ap (λ b. also natAbs (cond b (some (pos v)) none)) (ap (λ x. x && leb v highest) (leb·zero v) ∙ le-leb v highest h)) ∙ ap (λ o. also natAbs (within (pos 0) (pos highest) o)) e
+  natural-within v e h =
+      sym (ap (λ b. also natAbs (cond b (some (pos v)) none)) (ap (λ x. x && leb v highest) (leb·zero v) ∙ le-leb v highest h))
+      ∙ ap (λ o. also natAbs (within (pos 0) (pos highest) o)) e
 
   pub natural-above : (v : ℕ) → some (pos v) ≡ wholeOf s → highest < v → none ≡ naturalOf highest s
   unfolding naturalOf
-  natural-above v e h = sym (ap (λ b. also natAbs (cond b (some (pos v)) none)) (ap (λ x. x && leb v highest) (leb·zero v) ∙ lt-leb v highest h)) ∙ ap (λ o. also natAbs (within (pos 0) (pos highest) o)) e
+  natural-above v e h =
+      sym (ap (λ b. also natAbs (cond b (some (pos v)) none)) (ap (λ x. x && leb v highest) (leb·zero v) ∙ lt-leb v highest h))
+      ∙ ap (λ o. also natAbs (within (pos 0) (pos highest) o)) e
 
   pub natural-zero : (v : ℕ) → some (negℤ (pos v)) ≡ wholeOf s → v ≡ 0 → some 0 ≡ naturalOf highest s
   natural-zero v e h = natural-within 0 (ap (λ x. some (negℤ (pos x))) (sym h) ∙ e) (omega arith)

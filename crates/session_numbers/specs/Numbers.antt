@@ -8,7 +8,8 @@ use lib.Dec.{eqb, leb, ltb}
 use lib.IntN.{ℤ, pos, negsuc, negℤ, natAbs}
 use lib.Signed.{leZ}
 use lib.Ieee.{Float, nan, inf, binary32, ofInt, ofBits, div, neg}
-use Rattle.session_words.specs.Bytes.{minus, bytesOf, alike, placeOf}
+use Rattle.bytes.specs.Bytes.{indexOf}
+use Rattle.session_words.specs.Bytes.{minus, bytesOf, alike}
 
 -- the value of a word, where it has one, put to a function
 abbrev pub also : {A B : Type 0} → (A → B) → Option A → Option B
@@ -92,8 +93,8 @@ fractionOf s t = cond (isRun s && isRun t && leb (length s + length t) decimalDi
 -- a decimal without a sign
 unfoldable pub unsignedOf : List ℕ → Option Float
 unsignedOf s =
-    cond (ltb (placeOf point s) (length s))
-    (fractionOf (take (placeOf point s) s) (drop (suc (placeOf point s)) s))
+    cond (ltb (indexOf point s) (length s))
+    (fractionOf (take (indexOf point s) s) (drop (suc (indexOf point s)) s))
     (also (λ v. quotient v 0) (digitsOf decimalDigits s))
 
 -- a decimal: an optional minus sign before it. Minus zero keeps its sign

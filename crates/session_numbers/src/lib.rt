@@ -3,24 +3,19 @@ ghost use mathlib.Core.Path.{_≡_};
 ghost use Prim.Native.Nat.{_^_, _<_, _≤_};
 ghost use lib.ListN.{length};
 ghost use lib.Ieee.{binary32, ofBits};
-ghost use Rattle.session_numbers.specs.Numbers.{digitsOf, wholeOf, channelOf, byteOf, intOf, quotient, fractionOf, unsignedOf, decimalOf, bitsOf, numOf};
-ghost use Rattle.session_numbers.specs.Told.{toldChannel, toldByte, toldInt, toldNum};
+ghost use Rattle.session_numbers.specs.Numbers.{digitsOf, wholeOf, naturalOf, intOf, quotient, fractionOf, unsignedOf, decimalOf, bitsOf, numOf};
+ghost use Rattle.session_numbers.specs.Told.{toldNatural, NotAbove, toldInt, toldNum};
 ghost use Rattle.session_numbers.specs.Code.{toldDigits, toldWhole, AtMost, hexDigitOf};
-use session_words::place_of;
+use bytes::scan::find;
 use session_words::same;
 
-pub enum ChannelWord {
-    Number(u16),
+pub enum NaturalWord {
+    Value(u64),
     Malformed,
 }
 
 pub enum IntWord {
     Value(i32),
-    Malformed,
-}
-
-pub enum ByteWord {
-    Value(u8),
     Malformed,
 }
 
@@ -50,9 +45,10 @@ const DECIMAL_DIGITS: usize = 7;
 // The digits of a float's bits.
 const BITS_DIGITS: usize = 8;
 
-const CHANNEL_HIGHEST: u64 = 65_535;
+// The highest CH and BYTE.
+pub const CH_HIGHEST: u64 = 65_535;
 
-const BYTE_HIGHEST: u64 = 255;
+pub const BYTE_HIGHEST: u64 = 255;
 
 const INT_HIGHEST: u64 = 2_147_483_647;
 
@@ -114,49 +110,27 @@ fn whole(word: &[u8]) -> WholeWord
     }
 }
 
-// A channel: a whole number 0 to 65,535.
-pub fn channel(word: &[u8]) -> ChannelWord
-    ensures { λ r. ⌜ toldChannel r ≡ channelOf (now (word .entry)) ⌝ }
+// A whole number from 0 to the highest, as CH and BYTE are.
+pub fn natural(word: &[u8], highest: u64) -> NaturalWord
+    ensures value { λ r. ⌜ toldNatural r ≡ naturalOf highest (now (word .entry)) ⌝ }
+    ensures most { λ r. ⌜ NotAbove r highest ⌝ }
 {
     match whole(word) {
         WholeWord::Natural(v) => {
-            if v <= CHANNEL_HIGHEST {
-                ChannelWord::Number(v as u16)
+            if v <= highest {
+                NaturalWord::Value(v)
             } else {
-                ChannelWord::Malformed
+                NaturalWord::Malformed
             }
         }
         WholeWord::Negative(v) => {
             if v == 0 {
-                ChannelWord::Number(0)
+                NaturalWord::Value(0)
             } else {
-                ChannelWord::Malformed
+                NaturalWord::Malformed
             }
         }
-        WholeWord::Malformed => ChannelWord::Malformed,
-    }
-}
-
-// A whole number 0 to 255.
-pub fn byte(word: &[u8]) -> ByteWord
-    ensures { λ r. ⌜ toldByte r ≡ byteOf (now (word .entry)) ⌝ }
-{
-    match whole(word) {
-        WholeWord::Natural(v) => {
-            if v <= BYTE_HIGHEST {
-                ByteWord::Value(v as u8)
-            } else {
-                ByteWord::Malformed
-            }
-        }
-        WholeWord::Negative(v) => {
-            if v == 0 {
-                ByteWord::Value(0)
-            } else {
-                ByteWord::Malformed
-            }
-        }
-        WholeWord::Malformed => ByteWord::Malformed,
+        WholeWord::Malformed => NaturalWord::Malformed,
     }
 }
 
@@ -281,7 +255,7 @@ fn with_fraction(before: &[u8], after: &[u8]) -> NumWord
 fn unsigned(word: &[u8]) -> NumWord
     ensures { λ r. ⌜ toldNum r ≡ unsignedOf (now (word .entry)) ⌝ }
 {
-    let p = place_of(word, b'.');
+    let p = find(word, 0, word.len(), b'.');
     if p < word.len() {
         return with_fraction(&word[..p], &word[p + 1..]);
     }

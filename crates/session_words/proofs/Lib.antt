@@ -1,4 +1,4 @@
 -- The laws behind the proofs of words, in the order in which they stand on each other.
 pub mod Lists
 pub mod Runs
-mod Marking
+pub mod Cuts

@@ -7,7 +7,8 @@ use native.Mathlib.Numerals.{add-one}
 use native.Mathlib.Nat.{min-zero, zero-min, suc-min-suc}
 use native.Mathlib.Omega.{arith}
 use lib.ListN.{length, getD, take, drop, length-drop, drop-of-length-le}
-use lib.Seq.{drop-cons, take-suc, take-all, take-append-add}
+use lib.Seq.{drop-cons, take-suc, take-all, take-append-add, getD-drop}
+use Rattle.session_words.specs.Words.{between}
 
 pub cond-true : {A : Type 0} {b : Bool} (x y : A) → b ≡ true → cond b x y ≡ x
 cond-true x y e = ap (λ t. cond t x y) e
@@ -54,3 +55,13 @@ module _ {A : Type 0} where
   -- the rest of a list from an index on, as a part that goes to the end
   pub rest-is : (s : List A) (a : ℕ) → take (length s - a) (drop a s) ≡ drop a s
   rest-is s a = take-all (length s - a) (drop a s) (rw length-drop (omega arith))
+
+-- a part of a line with one byte more
+pub between-more : (s : List ℕ) (a i : ℕ) → a ≤ i → i < length s → between s a (i + 1) ≡ between s a i ++ (getD s i 0 ∷ [])
+between-more s a i h k =
+    let e : i + 1 - a ≡ suc (i - a) = omega arith in
+    let l : i - a < length (drop a s) = rw length-drop (omega arith) in
+    let f : a + (i - a) ≡ i = omega arith in
+    ap (λ n. take n (drop a s)) e
+    ∙ take-suc (drop a s) (i - a) 0 l
+    ∙ ap (λ x. between s a i ++ (x ∷ [])) (getD-drop a s (i - a) 0 ∙ ap (λ n. getD s n 0) f)

@@ -1,31 +1,16 @@
--- Going along a word from its first byte on: the place of a byte, and whether two words are the same.
-use Prim.Native.Nat.{ℕ, suc, _+_, _-_, _<_, _≤_}
+-- Going along two words from their first bytes on: whether they are the same.
+use Prim.Native.Nat.{ℕ, suc, _+_, _<_, _≤_}
 use mathlib.Core.Path.{_≡_, refl, ap, _∙_}
 use mathlib.Core.Bool.{Bool, true, false, _&&_}
 use mathlib.Core.List.{List, [], _∷_}
 use lib.ListN.{length, getD, drop}
 use lib.Dec.{eqb}
 use borrow.Author.Tests.{eq-eqb, ne-eqb}
-use Rattle.session_words.specs.Bytes.{alike, placeOf}
-use Rattle.session_words.proofs.Lists.{drop-at, drop-end, cond-true, cond-false}
+use Rattle.session_words.specs.Bytes.{alike}
+use Rattle.session_words.proofs.Lists.{drop-at, drop-end}
 
--- ---- the place of a byte
-
-pub place-here : (b : ℕ) (s : List ℕ) (i : ℕ) → i < length s → getD s i 0 ≡ b → placeOf b (drop i s) ≡ 0
-unfolding placeOf
-place-here b s i h e = ap (placeOf b) (drop-at s i 0 h) ∙ cond-true _ _ (eq-eqb _ _ e)
-
-pub place-on : (b : ℕ) (s : List ℕ) (i : ℕ) → i < length s → (getD s i 0 ≡ b → ⊥) → placeOf b (drop i s) ≡ suc (placeOf b (drop (i + 1) s))
-unfolding placeOf
-place-on b s i h e = ap (placeOf b) (drop-at s i 0 h) ∙ cond-false _ _ (ne-eqb _ _ e)
-
-pub place-end : (b : ℕ) (s : List ℕ) (i : ℕ) → length s ≤ i → placeOf b (drop i s) ≡ 0
-unfolding placeOf
-place-end b s i h = ap (placeOf b) (drop-end s i h)
-
--- ---- two words
-
-pub alike-on : (s t : List ℕ) (i : ℕ) → i < length s → i < length t → getD s i 0 ≡ getD t i 0 → alike (drop i s) (drop i t) ≡ alike (drop (i + 1) s) (drop (i + 1) t)
+pub alike-on : (s t : List ℕ) (i : ℕ) → i < length s → i < length t → getD s i 0 ≡ getD t i 0
+    → alike (drop i s) (drop i t) ≡ alike (drop (i + 1) s) (drop (i + 1) t)
 unfolding alike
 alike-on s t i h k e =
     ap (λ r. alike r (drop i t)) (drop-at s i 0 h)

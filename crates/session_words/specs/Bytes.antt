@@ -1,8 +1,8 @@
 -- Texts as bytes, and the test whether two words are the same.
-use Prim.Native.Nat.{ℕ, suc}
+use Prim.Native.Nat.{ℕ}
 use Prim.Native.Char.{code}
 use Prim.Native.String.{String, [] as []ᵗ, _∷_ as _∷ᵗ_}
-use mathlib.Core.Bool.{Bool, true, false, cond, _&&_}
+use mathlib.Core.Bool.{Bool, true, false, _&&_}
 use mathlib.Core.List.{List, [], _∷_}
 use lib.Dec.{eqb}
 
@@ -10,6 +10,10 @@ use lib.Dec.{eqb}
 abbrev pub bytesOf : String → List ℕ
 bytesOf []ᵗ = []
 bytesOf (c ∷ᵗ s) = code c ∷ bytesOf s
+
+-- the byte that ends a line
+abbrev pub newline : ℕ
+newline = 10
 
 -- the byte of a minus sign
 abbrev pub minus : ℕ
@@ -21,8 +25,3 @@ alike [] [] = true
 alike [] (b ∷ t) = false
 alike (a ∷ s) [] = false
 alike (a ∷ s) (b ∷ t) = eqb a b && alike s t
-
--- the place of the first byte of this kind; the length where there is none
-unfoldable pub placeOf : ℕ → List ℕ → ℕ
-placeOf b [] = 0
-placeOf b (a ∷ s) = cond (eqb a b) 0 (suc (placeOf b s))

@@ -1,19 +1,15 @@
 // The words of a line of a session file: what stands between its spaces.
 ghost use mathlib.Core.Path.{_≡_};
-ghost use Prim.Native.Nat.{_≤_, min};
+ghost use Prim.Native.Nat.{min};
 ghost use lib.ListN.{length};
-ghost use Rattle.session_words.specs.Bytes.{alike, placeOf};
-ghost use Rattle.session_words.specs.Words.{Marks, marked};
+ghost use Rattle.session_words.specs.Bytes.{alike};
+ghost use Rattle.session_words.specs.Words.{wordsOf, wordAt};
+use bytes::scan::find;
 
-// The most words that a call has: `list` and 8 channels.
-pub const WORDS: usize = 9;
+// The bytes between two words, and after a line.
+pub const SPACE: u8 = b' ';
 
-// Where the first `count` words begin and end; the others are empty. A count of 10 stands for more than 9.
-pub struct Words {
-    pub count: usize,
-    pub starts: [usize; WORDS],
-    pub ends: [usize; WORDS],
-}
+pub const NEWLINE: u8 = b'\n';
 
 // The lesser of two.
 pub fn least(a: usize, b: usize) -> usize
@@ -39,77 +35,36 @@ pub fn same(a: &[u8], b: &[u8]) -> bool
     true
 }
 
-// The place of the first byte of this kind; the length where there is none.
-pub fn place_of(bytes: &[u8], b: u8) -> usize
-    ensures { λ r. ⌜ r ≡ placeOf b (now (bytes .entry)) ⌝ }
-    ensures { λ r. ⌜ r ≤ length (now (bytes .entry)) ⌝ }
+// The number of words of a line.
+pub fn count(line: &[u8]) -> usize
+    ensures { λ r. ⌜ r ≡ length (wordsOf (now (line .entry))) ⌝ }
 {
-    let mut i = 0;
-    while i < bytes.len() {
-        if bytes[i] == b {
-            return i;
+    let mut at = 0;
+    let mut before = 0;
+    loop {
+        let end = find(line, at, line.len(), SPACE);
+        before += 1;
+        if end == line.len() {
+            return before;
         }
-        i += 1;
-    }
-    i
-}
-
-// The words of a line, cut at each space.
-pub fn split(line: &[u8]) -> Words
-    ensures { λ r. ⌜ Marks (now (line .entry)) r ⌝ }
-{
-    let mut starts = [0; WORDS];
-    let mut ends = [0; WORDS];
-    let mut count = 0;
-    let mut start = 0;
-    let mut i = 0;
-    while i < line.len() {
-        if line[i] != b' ' {
-            i += 1;
-            continue;
-        }
-        if count == WORDS {
-            return Words {
-                count: WORDS + 1,
-                starts,
-                ends,
-            };
-        }
-        starts[count] = start;
-        ends[count] = i;
-        count += 1;
-        i += 1;
-        start = i;
-    }
-    if count == WORDS {
-        return Words {
-            count: WORDS + 1,
-            starts,
-            ends,
-        };
-    }
-    starts[count] = start;
-    ends[count] = i;
-    Words {
-        count: count + 1,
-        starts,
-        ends,
+        at = end + 1;
     }
 }
 
-// The word at a place, counted from 0.
-pub fn word(line: &[u8], words: Words, k: usize) -> &[u8]
-    ensures { λ r. ⌜ now r ≡ marked (now (line .entry)) words k ⌝ }
+// The word of a line at a place, counted from 0; beyond the last, the empty word.
+pub fn word(line: &[u8], k: usize) -> &[u8]
+    ensures { λ r. ⌜ now r ≡ wordAt (wordsOf (now (line .entry))) k ⌝ }
 {
-    if k >= WORDS {
-        return &line[..0];
+    let mut at = 0;
+    let mut left = k;
+    while left > 0 {
+        let end = find(line, at, line.len(), SPACE);
+        if end == line.len() {
+            return &line[..0];
+        }
+        at = end + 1;
+        left -= 1;
     }
-    let starts = words.starts;
-    let ends = words.ends;
-    let start = starts[k];
-    let end = least(ends[k], line.len());
-    if start >= end {
-        return &line[..0];
-    }
-    &line[start..end]
+    let end = find(line, at, line.len(), SPACE);
+    &line[at..end]
 }

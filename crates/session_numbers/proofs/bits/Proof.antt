@@ -1,5 +1,6 @@
 -- `session_numbers::bits` meets its contract. The invariant is that of `digits`, for 8 hex digits.
-use Rattle.session_numbers.proofs.Hex.{HexTurn, hex-turn, hex-stop, hex-on, hex-off, hex-end, hexValue-on, hexValue-end, bits-some, bits-length, bits-none}
+use Rattle.session_numbers.proofs.Hex.{HexTurn, hex-turn, hex-stop, hex-on, hex-off, hex-end, hexValue-on, hexValue-end, bits-some}
+use Rattle.session_numbers.proofs.Hex.{bits-length, bits-none}
 use Rattle.session_numbers.proofs.Powers.{grows, below}
 use Rattle.session_numbers.specs.Numbers.{allHexDigits, hexValueAfter}
 use lib.Dec.{lit<}
@@ -10,11 +11,10 @@ use mathlib.Core.Path.{_≡_, refl, sym, ap, _∙_}
 use Prim.Native.Nat.{_+_, _-_, _*_, _^_, _≤_, _<_}
 use Rattle.session_numbers.proofs.bits.Statement.{statement}
 use Rattle.session_numbers.proofs.bits.Tie as tie
-use Rattle.session_numbers.proofs.bits.Reads as reads
-use Rattle.session_numbers.proofs.bits.Lts as lts
 
 abbrev Inv-loop : tie.InvT-loop
-Inv-loop word value₀ i₀ value i = (i ≤ length word) × (hexValueAfter value (drop i word) ≡ hexValueAfter 0 word) × (allHexDigits (drop i word) ≡ allHexDigits word) × (value < 16 ^ i)
+Inv-loop word value₀ i₀ value i =
+    (i ≤ length word) × (hexValueAfter value (drop i word) ≡ hexValueAfter 0 word) × (allHexDigits (drop i word) ≡ allHexDigits word) × (value < 16 ^ i)
 
 abbrev μ-loop : tie.MeasureT-loop
 μ-loop word value₀ i₀ value i = length word - i
@@ -25,18 +25,13 @@ returns c = sym (bits-length _ (c .if1 .taken))
 loop-holds : tie.Need-loop-holds Inv-loop μ-loop
 loop-holds c = (omega arith, refl, refl, lit< tt)
 
-shared-slice-read-hex-digit : tie.Need-shared-slice-read-hex-digit Inv-loop μ-loop
-shared-slice-read-hex-digit c = omega arith
-
-hex-digit-requires : tie.Need-hex-digit-requires Inv-loop μ-loop
-hex-digit-requires c κs = tt
-
 returns-2 : tie.Need-returns-2 Inv-loop μ-loop
 returns-2 c =
     let h = c .before in
     let l = h .before .before .before .loop in
     let w = h .before .before .before .before .before .before .args .word .now in
-    sym (bits-none w (sym (l .inv .2) ∙ hex-off w (l .i) (omega arith) (hex-stop (getD w (l .i) 0) (h .hex-digit .result) (h .hex-digit .ensures) (c .if2 .taken))))
+    sym (bits-none w (sym (l .inv .2)
+    ∙ hex-off w (l .i) (omega arith) (hex-stop (getD w (l .i) 0) (h .hex-digit .result) (h .hex-digit .ensures) (c .if2 .taken))))
 
 mul-value : tie.Need-mul-value Inv-loop μ-loop
 mul-value c =
@@ -44,22 +39,19 @@ mul-value c =
     omega (arith, below 16 (l .value) (l .i) 7 (lit< tt) (l .inv .3) (omega arith))
 
 -- the byte of a turn
-turn : (c : tie.Else2 Inv-loop μ-loop) → HexTurn (getD (c .before .before .before .before .before .before .before .args .word .now) (c .before .before .before .before .loop .i) 0) (c .before .hex-digit .result)
+turn : (c : tie.Else2 Inv-loop μ-loop)
+    → HexTurn (getD (c .before .before .before .before .before .before .before .args .word .now) (c .before .before .before .before .loop .i) 0)
+    (c .before .hex-digit .result)
 turn c =
     let h = c .before in
-    hex-turn (getD (h .before .before .before .before .before .before .args .word .now) (h .before .before .before .loop .i) 0) (h .hex-digit .result) (h .hex-digit .ensures) (c .if2 .left)
+    hex-turn (getD (h .before .before .before .before .before .before .args .word .now) (h .before .before .before .loop .i) 0) (h .hex-digit .result)
+    (h .hex-digit .ensures) (c .if2 .left)
 
 add-value : tie.Need-add-value Inv-loop μ-loop
 add-value c =
     let l = c .before .before .before .before .loop in
     let d = c .before .hex-digit .result in
     record { fits = below 16 (l .value * 16 + d) (l .i + 1) 8 (lit< tt) (grows 16 (l .value) d (l .i) (l .inv .3) (turn c .small)) (omega arith) }
-
-add-i : tie.Need-add-i Inv-loop μ-loop
-add-i c = omega arith
-
-loop-less : tie.Need-loop-less Inv-loop μ-loop
-loop-less c = omega arith
 
 loop-again : tie.Need-loop-again Inv-loop μ-loop
 loop-again c =
@@ -71,9 +63,6 @@ loop-again c =
       sym (hex-on w (l .i) (omega arith) (turn c .is)) ∙ l .inv .2,
       grows 16 (l .value) d (l .i) (l .inv .3) (turn c .small),
     )
-
-of-bits-requires : tie.Need-of-bits-requires Inv-loop μ-loop
-of-bits-requires c κs = tt
 
 returns-3 : tie.Need-returns-3 Inv-loop μ-loop
 returns-3 c =
@@ -87,17 +76,14 @@ pub bits-spec : {M : Type 1} → statement M
 bits-spec =
     tie.close
     (tie.spec
-    Inv-loop
-    μ-loop
+    Inv-loop μ-loop
     returns
     loop-holds
-    shared-slice-read-hex-digit
-    hex-digit-requires
+    (λ c. omega arith) (λ c κs. tt)
     returns-2
     mul-value
     add-value
-    add-i
-    loop-less
+    (λ c. omega arith) (λ c. omega arith)
     loop-again
-    of-bits-requires
+    (λ c κs. tt)
     returns-3)

@@ -10,43 +10,19 @@ use Rattle.session_numbers.proofs.Wholes.{sign-none, sign-minus, sign-p
 use borrow.Author.Needs.{needs}
 use Rattle.session_numbers.proofs.decimal.Statement.{statement}
 use Rattle.session_numbers.proofs.decimal.Tie as tie
-use Rattle.session_numbers.proofs.decimal.Reads as reads
-use Rattle.session_numbers.proofs.decimal.Lts as lts
 
 returns : tie.Need-returns
 unfolding decimalOf
 returns c = sign-none neg (λ x. x) unsignedOf (c .before .before .args .word .now) (c .if1 .taken)
 
-shared-slice-read-if2 : tie.Need-shared-slice-read-if2
-shared-slice-read-if2 c = search needs
-
-sub-unsigned : tie.Need-sub-unsigned
-sub-unsigned c = search needs
-
-part-unsigned-start : tie.Need-part-unsigned-start
-part-unsigned-start c = search needs
-
-part-unsigned-end : tie.Need-part-unsigned-end
-part-unsigned-end c = search needs
-
-unsigned-requires : tie.Need-unsigned-requires
-unsigned-requires c κs = search needs
-
-enum-known-x : tie.Need-enum-known-x
-enum-known-x c = search needs
-
-enum-told : tie.Need-enum-told
-enum-told c = search needs
-
-unsigned-requires-2 : tie.Need-unsigned-requires-2
-unsigned-requires-2 c κs = search needs
-
 returns-2 : tie.Need-returns-2
 unfolding decimalOf
 returns-2 c =
     let w = c .before .before .before .before .before .before .before .before .before .args .word .now in
-    let e : some (c .before .x .given .0 .0) ≡ unsignedOf (drop 1 w) = ap toldNum (sym (c .before .x .given .1)) ∙ c .before .before .before .unsigned .ensures ∙ ap unsignedOf (rest-is w 1) in
-    sign-minus neg (λ x. x) unsignedOf w (some (c .before .x .given .0 .0)) (c .before .before .before .before .before .before .before .if1 .left) (c .before .before .before .before .before .if2 .taken) e
+    let e : some (c .before .x .given .0 .0) ≡ unsignedOf (drop 1 w) = ap toldNum (sym (c .before .x .given .1))
+    ∙ c .before .before .before .unsigned .ensures ∙ ap unsignedOf (rest-is w 1) in
+    sign-minus neg (λ x. x) unsignedOf w (some (c .before .x .given .0 .0)) (c .before .before .before .before .before .before .before .if1 .left)
+    (c .before .before .before .before .before .if2 .taken) e
 
 returns-3 : tie.Need-returns-3
 unfolding decimalOf
@@ -59,21 +35,17 @@ returns-4 : tie.Need-returns-4
 unfolding decimalOf
 returns-4 c =
     let w = c .before .before .before .before .before .args .word .now in
-    sym (also-same (toldNum (c .unsigned2 .result))) ∙ sign-plain neg (λ x. x) unsignedOf w (toldNum (c .unsigned2 .result)) (c .before .before .before .if1 .left) (c .before .if2 .left) (c .unsigned2 .ensures)
+    sym (also-same (toldNum (c .unsigned2 .result)))
+    ∙ sign-plain neg (λ x. x) unsignedOf w (toldNum (c .unsigned2 .result)) (c .before .before .before .if1 .left) (c .before .if2 .left)
+    (c .unsigned2 .ensures)
 
 pub decimal-spec : {M : Type 1} → statement M
 decimal-spec =
     tie.close
     (tie.spec
     returns
-    shared-slice-read-if2
-    sub-unsigned
-    part-unsigned-start
-    part-unsigned-end
-    unsigned-requires
-    enum-known-x
-    enum-told
-    unsigned-requires-2
+    (λ c. search needs) (λ c. search needs) (λ c. search needs) (λ c. search needs) (λ c κs. search needs) (λ c. search needs) (λ c. search needs)
+    (λ c κs. search needs)
     returns-2
     returns-3
     returns-4)

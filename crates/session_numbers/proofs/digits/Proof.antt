@@ -1,5 +1,7 @@
--- `session_numbers::digits` meets its contract. The invariant: going on from `i` with the value so far gives the whole value, what is left are digits where all are, and the value so far has `i` digits.
-use Rattle.session_numbers.proofs.Runs.{digits-on, digits-low, digits-high, digits-end, value-on, value-end, digits-some, digits-none, digits-empty, digits-long}
+-- `session_numbers::digits` meets its contract. The invariant: going on from `i` with the value so far gives the whole value, what is left are digits
+-- where all are, and the value so far has `i` digits.
+use Rattle.session_numbers.proofs.Runs.{digits-on, digits-low, digits-high, digits-end, value-on, value-end, digits-some, digits-none}
+use Rattle.session_numbers.proofs.Runs.{digits-empty, digits-long}
 use Rattle.session_numbers.proofs.Powers.{grows, below}
 use Rattle.session_numbers.specs.Numbers.{allDigits, valueAfter, valueOf}
 use lib.Dec.{lit<}
@@ -10,11 +12,10 @@ use mathlib.Core.Path.{_≡_, refl, sym, ap, _∙_}
 use Prim.Native.Nat.{_-_, _^_, _≤_, _<_}
 use Rattle.session_numbers.proofs.digits.Statement.{statement}
 use Rattle.session_numbers.proofs.digits.Tie as tie
-use Rattle.session_numbers.proofs.digits.Reads as reads
-use Rattle.session_numbers.proofs.digits.Lts as lts
 
 abbrev Inv-loop : tie.InvT-loop
-Inv-loop word most value₀ i₀ value i = (i ≤ length word) × (valueAfter value (drop i word) ≡ valueOf word) × (allDigits (drop i word) ≡ allDigits word) × (value < 10 ^ i)
+Inv-loop word most value₀ i₀ value i =
+    (i ≤ length word) × (valueAfter value (drop i word) ≡ valueOf word) × (allDigits (drop i word) ≡ allDigits word) × (value < 10 ^ i)
 
 abbrev μ-loop : tie.MeasureT-loop
 μ-loop word most value₀ i₀ value i = length word - i
@@ -27,9 +28,6 @@ returns-2 c = (sym (digits-long _ _ (c .if2 .taken)), tt)
 
 loop-holds : tie.Need-loop-holds Inv-loop μ-loop
 loop-holds c = (omega arith, refl, refl, lit< tt)
-
-shared-slice-read-b : tie.Need-shared-slice-read-b Inv-loop μ-loop
-shared-slice-read-b c = omega arith
 
 returns-3 : tie.Need-returns-3 Inv-loop μ-loop
 returns-3 c =
@@ -46,19 +44,10 @@ mul-value c =
     let l = c .before .before .before .before .loop in
     omega (arith, below 10 (l .value) (l .i) 10 (lit< tt) (l .inv .3) (omega arith))
 
-cast-value : tie.Need-cast-value Inv-loop μ-loop
-cast-value c = omega arith
-
 add-value : tie.Need-add-value Inv-loop μ-loop
 add-value c =
     let l = c .before .before .before .before .loop in
     omega (arith, below 10 (l .value) (l .i) 10 (lit< tt) (l .inv .3) (omega arith))
-
-add-i : tie.Need-add-i Inv-loop μ-loop
-add-i c = omega arith
-
-loop-less : tie.Need-loop-less Inv-loop μ-loop
-loop-less c = omega arith
 
 loop-again : tie.Need-loop-again Inv-loop μ-loop
 loop-again c =
@@ -74,7 +63,8 @@ returns-5 : tie.Need-returns-5 Inv-loop μ-loop
 returns-5 c =
     let l = c .before .loop in
     let w = c .before .before .before .before .args .word .now in (
-      sym (digits-some _ w (omega arith) (omega arith) (sym (l .inv .2) ∙ digits-end w (l .i) (omega arith)) ∙ ap some (sym (l .inv .1) ∙ value-end (l .value) w (l .i) (omega arith))),
+      sym (digits-some _ w (omega arith) (omega arith) (sym (l .inv .2) ∙ digits-end w (l .i) (omega arith))
+          ∙ ap some (sym (l .inv .1) ∙ value-end (l .value) w (l .i) (omega arith))),
       below 10 (l .value) (l .i) (length w) (lit< tt) (l .inv .3) (omega arith),
     )
 
@@ -82,18 +72,16 @@ pub digits-spec : {M : Type 1} → statement M
 digits-spec =
     tie.close
     (tie.spec
-    Inv-loop
-    μ-loop
+    Inv-loop μ-loop
     returns
     returns-2
     loop-holds
-    shared-slice-read-b
+    (λ c. omega arith)
     returns-3
     returns-4
     mul-value
-    cast-value
+    (λ c. omega arith)
     add-value
-    add-i
-    loop-less
+    (λ c. omega arith) (λ c. omega arith)
     loop-again
     returns-5)

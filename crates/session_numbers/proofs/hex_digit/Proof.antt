@@ -3,26 +3,15 @@ use Rattle.session_numbers.proofs.Hex.{hex-below, hex-decimal, hex-betw
 use borrow.Author.Needs.{needs}
 use Rattle.session_numbers.proofs.hex_digit.Statement.{statement}
 use Rattle.session_numbers.proofs.hex_digit.Tie as tie
-use Rattle.session_numbers.proofs.hex_digit.Reads as reads
-use Rattle.session_numbers.proofs.hex_digit.Lts as lts
 
 returns : tie.Need-returns
 returns c = hex-below _ (c .if1 .taken)
-
-cast-result : tie.Need-cast-result
-cast-result c = search needs
 
 returns-2 : tie.Need-returns-2
 returns-2 c = hex-decimal _ (c .before .if1 .left) (c .if2 .taken)
 
 returns-3 : tie.Need-returns-3
 returns-3 c = hex-between _ (c .before .if2 .left) (c .if3 .taken)
-
-cast-result-2 : tie.Need-cast-result-2
-cast-result-2 c = search needs
-
-add-result : tie.Need-add-result
-add-result c = search needs
 
 returns-4 : tie.Need-returns-4
 returns-4 c = hex-letter _ (c .before .if3 .left) (c .if4 .taken)
@@ -33,4 +22,4 @@ returns-5 c = hex-above _ (c .if4 .left)
 pub hex-digit-spec : {M : Type 1} → statement M
 hex-digit-spec =
     tie.close
-    (tie.spec returns cast-result returns-2 returns-3 cast-result-2 add-result returns-4 returns-5)
+    (tie.spec returns (λ c. search needs) returns-2 returns-3 (λ c. search needs) (λ c. search needs) returns-4 returns-5)

@@ -11,23 +11,6 @@ use mathlib.Core.Path.{sym, ap, _∙_}
 use borrow.Author.Needs.{needs}
 use Rattle.session_numbers.proofs.int.Statement.{statement}
 use Rattle.session_numbers.proofs.int.Tie as tie
-use Rattle.session_numbers.proofs.int.Reads as reads
-use Rattle.session_numbers.proofs.int.Lts as lts
-
-whole-requires : tie.Need-whole-requires
-whole-requires c κs = search needs
-
-enum-known-v : tie.Need-enum-known-v
-enum-known-v c = search needs
-
-cast-t8 : tie.Need-cast-t8
-cast-t8 c = search needs
-
-enum-known-v-2 : tie.Need-enum-known-v-2
-enum-known-v-2 c = search needs
-
-cast-t10 : tie.Need-cast-t10
-cast-t10 c = search needs
 
 sub-t11 : tie.Need-sub-t11
 sub-t11 c = negated-fits (c .before .before .v2 .given .0 .0) (omega arith)
@@ -38,16 +21,11 @@ returns c =
     ap some (toZ-ofZ w32 (pos 0 -ℤ toZ w32 (v .0 .0)) (negated-fits (v .0 .0) (omega arith)) ∙ negated (v .0 .0) (omega arith))
     ∙ int-negative _ (v .0 .0) (ap toldWhole (sym (v .1)) ∙ c .before .before .before .before .whole .ensures) (omega arith)
 
-add-if3 : tie.Need-add-if3
-add-if3 c = search needs
-
-enum-told : tie.Need-enum-told
-enum-told c = search needs
-
 returns-2 : tie.Need-returns-2
 returns-2 c =
     let v = c .before .before .v .given in
-    ap some (toZ-pos w32 (v .0 .0) (omega arith)) ∙ int-natural _ (v .0 .0) (ap toldWhole (sym (v .1)) ∙ c .before .before .before .before .whole .ensures) (c .if1 .taken)
+    ap some (toZ-pos w32 (v .0 .0) (omega arith))
+    ∙ int-natural _ (v .0 .0) (ap toldWhole (sym (v .1)) ∙ c .before .before .before .before .whole .ensures) (c .if1 .taken)
 
 returns-3 : tie.Need-returns-3
 returns-3 c =
@@ -57,7 +35,8 @@ returns-3 c =
 returns-4 : tie.Need-returns-4
 returns-4 c =
     let v = c .before .before .before .v2 .given in
-    ap (λ n. some (negℤ (pos n))) (sym (c .if3 .taken)) ∙ int-negative _ (v .0 .0) (ap toldWhole (sym (v .1)) ∙ c .before .before .before .before .before .whole .ensures) (omega arith)
+    ap (λ n. some (negℤ (pos n))) (sym (c .if3 .taken))
+    ∙ int-negative _ (v .0 .0) (ap toldWhole (sym (v .1)) ∙ c .before .before .before .before .before .whole .ensures) (omega arith)
 
 returns-5 : tie.Need-returns-5
 returns-5 c =
@@ -71,15 +50,10 @@ pub int-spec : {M : Type 1} → statement M
 int-spec =
     tie.close
     (tie.spec
-    whole-requires
-    enum-known-v
-    cast-t8
-    enum-known-v-2
-    cast-t10
+    (λ c κs. search needs) (λ c. search needs) (λ c. search needs) (λ c. search needs) (λ c. search needs)
     sub-t11
     returns
-    add-if3
-    enum-told
+    (λ c. search needs) (λ c. search needs)
     returns-2
     returns-3
     returns-4

@@ -11,14 +11,9 @@ use Rattle.session_numbers.proofs.Decimals.{held}
 use borrow.Author.Needs.{needs}
 use Rattle.session_numbers.proofs.nearest.Statement.{statement}
 use Rattle.session_numbers.proofs.nearest.Tie as tie
-use Rattle.session_numbers.proofs.nearest.Reads as reads
-use Rattle.session_numbers.proofs.nearest.Lts as lts
 
 int-to-float-result : tie.Need-int-to-float-result
 int-to-float-result c = held (c .before .args .value) (omega arith)
-
-power-of-ten-requires : tie.Need-power-of-ten-requires
-power-of-ten-requires c κs = search needs
 
 int-to-float-result-2 : tie.Need-int-to-float-result-2
 int-to-float-result-2 c =
@@ -32,4 +27,4 @@ returns c = ap (λ p. div binary32 (ofInt binary32 (pos (c .before .before .befo
 
 pub nearest-spec : {M : Type 1} → statement M
 nearest-spec =
-    tie.close (tie.spec int-to-float-result power-of-ten-requires int-to-float-result-2 returns)
+    tie.close (tie.spec int-to-float-result (λ c κs. search needs) int-to-float-result-2 returns)

@@ -8,8 +8,6 @@ use mathlib.Core.Path.{_≡_, refl, sym, _∙_, subst⁻¹}
 use borrow.Author.Needs.{needs}
 use Rattle.session_numbers.proofs.of_bits.Statement.{statement}
 use Rattle.session_numbers.proofs.of_bits.Tie as tie
-use Rattle.session_numbers.proofs.of_bits.Reads as reads
-use Rattle.session_numbers.proofs.of_bits.Lts as lts
 
 is-nan : (x : Float) → isNan x ≡ true → nan ≡ x
 unfolding isNan
@@ -19,13 +17,12 @@ is-nan (fin s m k) e = let z : _≡_ {A = Float} nan (fin s m k) = cc in z
 
 returns : tie.Need-returns
 unfolding div ofBits
-returns c = is-nan (ofBits binary32 (c .before .args .bits)) (sym (nanBits-is binary32 (c .before .args .bits)) ∙ nanBits-above binary32 (c .before .args .bits) ∙ lt-ltb _ _ (c .if1 .taken))
+returns c =
+    is-nan (ofBits binary32 (c .before .args .bits)) (sym (nanBits-is binary32 (c .before .args .bits)) ∙ nanBits-above binary32 (c .before .args .bits)
+    ∙ lt-ltb _ _ (c .if1 .taken))
 
 float-from-bits-result : tie.Need-float-from-bits-result
 float-from-bits-result c = subst⁻¹ (λ x. T (not x)) (nanBits-above binary32 (c .before .args .bits) ∙ le-ltb _ _ (c .if1 .left)) tt
 
-returns-2 : tie.Need-returns-2
-returns-2 c = search needs
-
 pub of-bits-spec : {M : Type 1} → statement M
-of-bits-spec = tie.close (tie.spec returns float-from-bits-result returns-2)
+of-bits-spec = tie.close (tie.spec returns float-from-bits-result (λ c. search needs))

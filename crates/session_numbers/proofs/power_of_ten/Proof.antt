@@ -7,8 +7,6 @@ use mathlib.Core.Path.{_≡_, refl, ap, _∙_}
 use Prim.Native.Nat.{_-_, _*_, _^_, _≤_, _<_}
 use Rattle.session_numbers.proofs.power_of_ten.Statement.{statement}
 use Rattle.session_numbers.proofs.power_of_ten.Tie as tie
-use Rattle.session_numbers.proofs.power_of_ten.Reads as reads
-use Rattle.session_numbers.proofs.power_of_ten.Lts as lts
 
 abbrev Inv-loop : tie.InvT-loop
 Inv-loop k p₀ i₀ p i = (i ≤ k) × (p ≡ 10 ^ i)
@@ -25,12 +23,6 @@ mul-p c =
     let small : 10 ^ (l .i) ≤ 10 ^ 6 = pow-le-pow-right (lit< tt) {j = 6} (omega arith) in
     omega arith
 
-add-i : tie.Need-add-i Inv-loop μ-loop
-add-i c = omega arith
-
-loop-less : tie.Need-loop-less Inv-loop μ-loop
-loop-less c = omega arith
-
 loop-again : tie.Need-loop-again Inv-loop μ-loop
 loop-again c =
     let l = c .before .loop in
@@ -43,4 +35,4 @@ returns c =
 
 pub power-of-ten-spec : {M : Type 1} → statement M
 power-of-ten-spec =
-    tie.close (tie.spec Inv-loop μ-loop loop-holds mul-p add-i loop-less loop-again returns)
+    tie.close (tie.spec Inv-loop μ-loop loop-holds mul-p (λ c. omega arith) (λ c. omega arith) loop-again returns)

@@ -11,8 +11,6 @@ use Rattle.session_numbers.proofs.Decimals.{Run, run-some, fraction-lon
 use borrow.Author.Needs.{needs}
 use Rattle.session_numbers.proofs.with_fraction.Statement.{statement}
 use Rattle.session_numbers.proofs.with_fraction.Tie as tie
-use Rattle.session_numbers.proofs.with_fraction.Reads as reads
-use Rattle.session_numbers.proofs.with_fraction.Lts as lts
 
 -- the entry, from the place where both runs have a value
 abbrev entry : tie.After-known-told2 → tie.Start
@@ -25,13 +23,19 @@ abbrev second : tie.After-known-told2 → ℕ
 second c = c .before .a .given .0 .0
 
 run-first : (c : tie.After-known-told2) → Run decimalDigits (entry c .args .«before» .now) (first c)
-run-first c = run-some decimalDigits (entry c .args .«before» .now) (first c) (ap toldDigits (sym (c .before .before .before .before .before .b .given .1)) ∙ c .before .before .before .before .before .before .before .digits .ensures .0)
+run-first c =
+    run-some decimalDigits (entry c .args .«before» .now) (first c) (ap toldDigits (sym (c .before .before .before .before .before .b .given .1))
+    ∙ c .before .before .before .before .before .before .before .digits .ensures .0)
 
 run-second : (c : tie.After-known-told2) → Run (decimalDigits - length (entry c .args .«before» .now)) (entry c .args .after .now) (second c)
-run-second c = run-some (decimalDigits - length (entry c .args .«before» .now)) (entry c .args .after .now) (second c) (ap toldDigits (sym (c .before .a .given .1)) ∙ c .before .before .before .digits2 .ensures .0)
+run-second c =
+    run-some (decimalDigits - length (entry c .args .«before» .now)) (entry c .args .after .now) (second c) (ap toldDigits (sym (c .before .a .given .1))
+    ∙ c .before .before .before .digits2 .ensures .0)
 
 small-first : (c : tie.After-known-told2) → first c < 10 ^ length (entry c .args .«before» .now)
-small-first c = subst (λ d. AtMost d (length (entry c .args .«before» .now))) (c .before .before .before .before .before .b .given .1) (c .before .before .before .before .before .before .before .digits .ensures .1)
+small-first c =
+    subst (λ d. AtMost d (length (entry c .args .«before» .now))) (c .before .before .before .before .before .b .given .1)
+    (c .before .before .before .before .before .before .before .digits .ensures .1)
 
 small-second : (c : tie.After-known-told2) → second c < 10 ^ length (entry c .args .after .now)
 small-second c = subst (λ d. AtMost d (length (entry c .args .after .now))) (c .before .a .given .1) (c .before .before .before .digits2 .ensures .1)
@@ -42,31 +46,11 @@ seven c =
     let s = entry c .args .«before» .now in
     let t = entry c .args .after .now in
     let l : length s + length t ≤ 7 = omega (arith, run-first c .most, run-second c .most) in
-    below 10 (first c * 10 ^ length t + second c) (length s + length t) 7 (lit< tt) (joins 10 (first c) (second c) (length s) (length t) (small-first c) (small-second c)) l
+    below 10 (first c * 10 ^ length t + second c) (length s + length t) 7 (lit< tt)
+    (joins 10 (first c) (second c) (length s) (length t) (small-first c) (small-second c)) l
 
 returns : tie.Need-returns
 returns c = fraction-long _ _ (c .if1 .taken)
-
-sub-room : tie.Need-sub-room
-sub-room c = search needs
-
-digits-requires : tie.Need-digits-requires
-digits-requires c κs = search needs
-
-enum-told : tie.Need-enum-told
-enum-told c = search needs
-
-enum-known-b : tie.Need-enum-known-b
-enum-known-b c = search needs
-
-digits-requires-2 : tie.Need-digits-requires-2
-digits-requires-2 c κs = search needs
-
-enum-told-2 : tie.Need-enum-told-2
-enum-told-2 c = search needs
-
-enum-known-a : tie.Need-enum-known-a
-enum-known-a c = search needs
 
 cast-value : tie.Need-cast-value
 cast-value c =
@@ -95,7 +79,9 @@ returns-2 : tie.Need-returns-2
 returns-2 c = fraction-first _ _ (c .before .before .before .if1 .left) (ap toldDigits (sym (c .enum-told .given .1)) ∙ c .before .before .digits .ensures .0)
 
 returns-3 : tie.Need-returns-3
-returns-3 c = fraction-second _ _ (c .before .before .before .before .before .before .before .if1 .left) (ap toldDigits (sym (c .enum-told2 .given .1)) ∙ c .before .before .digits2 .ensures .0)
+returns-3 c =
+    fraction-second _ _ (c .before .before .before .before .before .before .before .if1 .left) (ap toldDigits (sym (c .enum-told2 .given .1))
+    ∙ c .before .before .digits2 .ensures .0)
 
 returns-4 : tie.Need-returns-4
 returns-4 c =
@@ -109,13 +95,7 @@ with-fraction-spec =
     tie.close
     (tie.spec
     returns
-    sub-room
-    digits-requires
-    enum-told
-    enum-known-b
-    digits-requires-2
-    enum-told-2
-    enum-known-a
+    (λ c. search needs) (λ c κs. search needs) (λ c. search needs) (λ c. search needs) (λ c κs. search needs) (λ c. search needs) (λ c. search needs)
     cast-value
     power-of-ten-requires
     mul-value

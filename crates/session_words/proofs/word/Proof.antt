@@ -1,77 +1,62 @@
--- `session_words::word` meets its contract: a place beyond the line's end is as good as that.
-use Rattle.session_words.proofs.Marking.{between-least, between-empty}
-use Rattle.session_words.specs.Words.{between}
-use lib.ListN.{length, getD, List·getD-eq-default}
+-- `session_words::word` meets its contract. The invariant: the word is the one of what is left, at the place that is still to go.
+use Prim.Native.Nat.{_+_, _-_, _≤_, _<_}
+use mathlib.Core.Path.{_≡_, refl, sym, ap, _∙_}
+use mathlib.Core.List.{[]}
 use native.Mathlib.Omega.{arith}
-use mathlib.Core.Path.{_≡_, ap, _∙_}
-use Prim.Native.Nat.{_-_, _≤_}
+use lib.ListN.{length, drop}
+use Rattle.session_words.specs.Words.{wordsOf, wordAt}
+use Rattle.session_words.proofs.Cuts.{word-at, last-word, next-word, later-word}
 use borrow.Author.Needs.{needs}
 use Rattle.session_words.proofs.word.Statement.{statement}
 use Rattle.session_words.proofs.word.Tie as tie
-use Rattle.session_words.proofs.word.Reads as reads
-use Rattle.session_words.proofs.word.Lts as lts
 
-slice-aggregate-result : tie.Need-slice-aggregate-result
-slice-aggregate-result c = search needs
+abbrev Inv-loop : tie.InvT-loop
+Inv-loop line k at₀ left₀ at left = (at ≤ length line) × (wordAt (wordsOf line) k ≡ wordAt (wordsOf (drop at line)) left)
 
-returns : tie.Need-returns
+abbrev μ-loop : tie.MeasureT-loop
+μ-loop line k at₀ left₀ at left = left
+
+returns : tie.Need-returns Inv-loop μ-loop
 returns c =
-    let a = c .before .before .before .args in
-    let nine : length (a .words .ends) ≡ 9 = search needs in
-    let beyond : length (a .words .ends) ≤ a .k = omega arith in
-    between-empty (a .line .now) (getD (a .words .starts) (a .k) 0) (getD (a .words .ends) (a .k) 0) (omega (arith, List·getD-eq-default (a .words .ends) 0 beyond))
+    let f = c .before .before in
+    let l = f .before .before in
+    let line = l .before .before .args .line .now in
+    sym (l .loop .inv .1
+    ∙ ap (λ ws. wordAt ws (l .loop .left)) (last-word line (l .loop .inv .0) (f .find .ensures .0) (c .before .if1 .taken))
+    ∙ later-word _ [] (l .loop .left) (f .before .loop-test .taken))
 
-mul-start : tie.Need-mul-start
-mul-start c = search needs
+loop-again : tie.Need-loop-again Inv-loop μ-loop
+loop-again c =
+    let f = c .before in
+    let l = f .before .before in
+    let line = l .before .before .args .line .now in
+    let inside : f .find .result < length line = omega (arith, f .find .ensures .1, c .if1 .left) in (
+      omega arith,
+      l .loop .inv .1
+          ∙ ap (λ ws. wordAt ws (l .loop .left)) (next-word line (l .loop .inv .0) (f .find .ensures .0) inside)
+          ∙ later-word _ (wordsOf (drop (f .find .result + 1) line)) (l .loop .left) (f .before .loop-test .taken),
+    )
 
-array-read-start : tie.Need-array-read-start
-array-read-start c = search needs
-
-mul-least : tie.Need-mul-least
-mul-least c = search needs
-
-array-read-least : tie.Need-array-read-least
-array-read-least c = search needs
-
-least-requires : tie.Need-least-requires
-least-requires c κs = search needs
-
-slice-aggregate-result-2 : tie.Need-slice-aggregate-result-2
-slice-aggregate-result-2 c = search needs
-
-returns-2 : tie.Need-returns-2
+returns-2 : tie.Need-returns-2 Inv-loop μ-loop
 returns-2 c =
-    let a = c .before .before .before .before .before .before .before .args in
-    between-empty (a .line .now) (getD (a .words .starts) (a .k) 0) (getD (a .words .ends) (a .k) 0) (omega arith)
-
-sub-result : tie.Need-sub-result
-sub-result c = search needs
-
-part-result-start : tie.Need-part-result-start
-part-result-start c = search needs
-
-part-result-end : tie.Need-part-result-end
-part-result-end c = search needs
-
-returns-3 : tie.Need-returns-3
-returns-3 c =
-    let a = c .before .before .before .before .before .before .before .args in
-    ap (λ e. between (a .line .now) (getD (a .words .starts) (a .k) 0) e) (c .before .before .least .ensures) ∙ between-least (a .line .now) (getD (a .words .starts) (a .k) 0) (getD (a .words .ends) (a .k) 0)
+    let f = c .before in
+    let l = f .before .before in
+    let line = l .before .before .args .line .now in
+    let first : l .loop .left ≡ 0 = omega (arith, f .before .loop-test .left) in
+    sym (l .loop .inv .1 ∙ ap (wordAt (wordsOf (drop (l .loop .at) line))) first
+    ∙ ap (λ ws. wordAt ws 0) (word-at line (l .loop .inv .0) (f .find2 .ensures .0)))
 
 pub word-spec : {M : Type 1} → statement M
 word-spec =
     tie.close
     (tie.spec
-    slice-aggregate-result
+    Inv-loop μ-loop
+    (λ c. (omega arith, refl))
+    (λ c κs. search needs) (λ c. search needs)
     returns
-    mul-start
-    array-read-start
-    mul-least
-    array-read-least
-    least-requires
-    slice-aggregate-result-2
-    returns-2
-    sub-result
-    part-result-start
-    part-result-end
-    returns-3)
+    (λ c. search needs) (λ c. search needs) (λ c. omega arith)
+    loop-again
+    (λ c κs. search needs)
+    (λ c. omega (arith, c .find2 .ensures .0))
+    (λ c. search needs) (λ c. search needs)
+    returns-2)

@@ -1,0 +1,1 @@
+-- Each function is proved by what the number of its kind is told to be.

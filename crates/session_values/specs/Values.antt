@@ -1,0 +1,35 @@
+-- The numbers of a line: its words read as numbers, by their places from 0 on. A word that is none of the kind counts as 0; a row asks for the
+-- kinds that it names alone, and a line that has the row has them.
+use Prim.Native.Nat.{ℕ, _-_}
+use mathlib.Core.List.{List, [], _∷_}
+use mathlib.Core.Option.{Option·getD}
+use lib.ListN.{length, take}
+use lib.IntN.{ℤ, pos}
+use lib.Ieee.{Float, binary32, ofBits}
+use Rattle.session_words.specs.Words.{wordAt}
+use Rattle.session_numbers.specs.Numbers.{channelOf, byteOf, intOf, numOf}
+
+-- the float 0
+abbrev pub zeroNum : Float
+zeroNum = ofBits binary32 0
+
+-- the channel, the byte, the whole number and the float at a place
+unfoldable pub CH : List (List ℕ) → ℕ → ℕ
+CH ws k = Option·getD (channelOf (wordAt ws k)) 0
+
+unfoldable pub BYTE : List (List ℕ) → ℕ → ℕ
+BYTE ws k = Option·getD (byteOf (wordAt ws k)) 0
+
+unfoldable pub INT : List (List ℕ) → ℕ → ℤ
+INT ws k = Option·getD (intOf (wordAt ws k)) (pos 0)
+
+unfoldable pub NUM : List (List ℕ) → ℕ → Float
+NUM ws k = Option·getD (numOf (wordAt ws k)) zeroNum
+
+-- the 8 words after the first, as channels
+abbrev pub listed : List (List ℕ) → List ℕ
+listed ws = CH ws 1 ∷ CH ws 2 ∷ CH ws 3 ∷ CH ws 4 ∷ CH ws 5 ∷ CH ws 6 ∷ CH ws 7 ∷ CH ws 8 ∷ []
+
+-- those of them that the line has
+unfoldable pub channelsOf : List (List ℕ) → List ℕ
+channelsOf ws = take (length ws - 1) (listed ws)
