@@ -12,7 +12,7 @@ use mir.Val.{Fits, SFits, toZ, ofZ}
 use mir.ValLaws.{toZ-ofZ}
 use borrow.Author.Tests.{ltb-true}
 use Rattle.session_words.specs.Bytes.{minus}
-use Rattle.session_file.specs.Text.{decimalText, signedText}
+use Rattle.session_lines.specs.Text.{decimalText, signedText}
 
 module _ (z : ℤ) (f : SFits w32 z) where
   pub narrow : toZ w32 (ofZ w32 z) ≡ z

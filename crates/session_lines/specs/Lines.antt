@@ -4,11 +4,8 @@ use mathlib.Core.Bool.{Bool, true, cond}
 use mathlib.Core.List.{List, [], _∷_, _++_}
 use lib.ListN.{length, take}
 use lib.Dec.{eqb, ltb}
-use Rattle.session_file.specs.declared.lines.Line.{Line}
-
--- the byte that ends a line
-abbrev pub newline : ℕ
-newline = 10
+use Rattle.session_words.specs.Bytes.{newline}
+use Rattle.session_lines.specs.declared.lines.Line.{Line}
 
 -- the byte that begins a comment
 abbrev pub hash : ℕ

@@ -1,28 +1,14 @@
--- `session_file::text::with` meets its contract: what was there and what is added, as far as there is room (`Writing`).
+-- `session_lines::text::with` meets its contract: what was there and what is added, as far as there is room (`Writing`).
 use Prim.Native.Nat.{_+_, _-_, min}
 use mathlib.Core.Path.{_≡_, ap, ap₂, _∙_}
 use native.Mathlib.Omega.{arith}
 use lib.ListN.{length, take}
 use lib.Seq.{paste}
-use Rattle.session_file.specs.Text.{room}
-use Rattle.session_file.proofs.Writing.{copied}
+use Rattle.session_lines.specs.Text.{room}
+use Rattle.session_lines.proofs.Writing.{copied}
 use borrow.Author.Needs.{needs}
-use Rattle.session_file.proofs.text.with.Statement.{statement}
-use Rattle.session_file.proofs.text.with.Tie as tie
-use Rattle.session_file.proofs.text.with.Reads as reads
-use Rattle.session_file.proofs.text.with.Lts as lts
-
-least-requires : tie.Need-least-requires
-least-requires c κs = search needs
-
-sub-least : tie.Need-sub-least
-sub-least c = search needs
-
-least-requires-2 : tie.Need-least-requires-2
-least-requires-2 c κs = search needs
-
-slice-aggregate-copy-to : tie.Need-slice-aggregate-copy-to
-slice-aggregate-copy-to c = search needs
+use Rattle.session_lines.proofs.text.with.Statement.{statement}
+use Rattle.session_lines.proofs.text.with.Tie as tie
 
 copy-to-requires : tie.Need-copy-to-requires
 copy-to-requires c κs =
@@ -30,15 +16,13 @@ copy-to-requires c κs =
     let n : length (a .text .bytes) ≡ room = search needs in
     (omega (arith, c .before .before .before .least .ensures, c .before .before .least2 .ensures), omega (arith, c .before .before .least2 .ensures))
 
-add-t6 : tie.Need-add-t6
-add-t6 c = search needs
-
 returns : tie.Need-returns
 returns c =
     let a = c .before .before .before .before .before .before .before .args in
     let n : length (a .text .bytes) ≡ room = search needs in
     let f : c .before .before .before .before .before .least .result ≡ min (a .text .length) room = c .before .before .before .before .before .least .ensures in
-    let g : c .before .before .before .before .least2 .result ≡ min (length (a .more .now)) (room - min (a .text .length) room) = c .before .before .before .before .least2 .ensures ∙ ap (λ x. min (length (a .more .now)) (room - x)) f in
+    let g : c .before .before .before .before .least2 .result ≡ min (length (a .more .now)) (room - min (a .text .length) room) =
+    c .before .before .before .before .least2 .ensures ∙ ap (λ x. min (length (a .more .now)) (room - x)) f in
     ap (take (c .before .before .before .before .before .least .result + c .before .before .before .before .least2 .result)) (c .before .copy-to .ensures)
     ∙ ap₂ (λ x y. take (x + y) (paste (a .text .bytes) x (a .more .now) y)) f g
     ∙ copied room (a .text .length) (a .text .bytes) (a .more .now) n
@@ -47,10 +31,7 @@ pub with-spec : {M : Type 1} → statement M
 with-spec =
     tie.close
     (tie.spec
-    least-requires
-    sub-least
-    least-requires-2
-    slice-aggregate-copy-to
+    (λ c κs. search needs) (λ c. search needs) (λ c κs. search needs) (λ c. search needs)
     copy-to-requires
-    add-t6
+    (λ c. search needs)
     returns)

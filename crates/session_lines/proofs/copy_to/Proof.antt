@@ -1,4 +1,4 @@
--- `session_file::copy_to` meets its contract. The invariant: so far the first `i` bytes are copied.
+-- `session_lines::copy_to` meets its contract. The invariant: so far the first `i` bytes are copied.
 use lib.Seq.{paste, paste-zero, paste-suc}
 use lib.ListN.{length, getD, set, length-set}
 use native.Mathlib.Omega.{arith}
@@ -6,10 +6,8 @@ use native.Mathlib.Nat.{le-antisymm}
 use native.Mathlib.Numerals.{add-one}
 use mathlib.Core.Path.{_≡_, refl, sym, ap, _∙_}
 use Prim.Native.Nat.{_+_, _-_, _≤_, _<_}
-use Rattle.session_file.proofs.copy_to.Statement.{statement}
-use Rattle.session_file.proofs.copy_to.Tie as tie
-use Rattle.session_file.proofs.copy_to.Reads as reads
-use Rattle.session_file.proofs.copy_to.Lts as lts
+use Rattle.session_lines.proofs.copy_to.Statement.{statement}
+use Rattle.session_lines.proofs.copy_to.Tie as tie
 
 abbrev Inv-loop : tie.InvT-loop
 Inv-loop dst₀ at src n i₀ dst i = (i ≤ n) × (dst ≡ paste dst₀ at src i) × (length dst ≡ length dst₀)
@@ -19,21 +17,6 @@ abbrev μ-loop : tie.MeasureT-loop
 
 loop-holds : tie.Need-loop-holds Inv-loop μ-loop
 loop-holds c = (omega arith, paste-zero (c .args .dst .now) (c .args .at) (c .args .src .now), refl)
-
-shared-slice-read-dst : tie.Need-shared-slice-read-dst Inv-loop μ-loop
-shared-slice-read-dst c = omega arith
-
-add-dst : tie.Need-add-dst Inv-loop μ-loop
-add-dst c = omega arith
-
-slice-write-dst : tie.Need-slice-write-dst Inv-loop μ-loop
-slice-write-dst c = omega arith
-
-add-i : tie.Need-add-i Inv-loop μ-loop
-add-i c = omega arith
-
-loop-less : tie.Need-loop-less Inv-loop μ-loop
-loop-less c = omega arith
 
 loop-again : tie.Need-loop-again Inv-loop μ-loop
 loop-again c =
@@ -61,14 +44,9 @@ pub copy-to-spec : {M : Type 1} → statement M
 copy-to-spec =
     tie.close
     (tie.spec
-    Inv-loop
-    μ-loop
+    Inv-loop μ-loop
     loop-holds
-    shared-slice-read-dst
-    add-dst
-    slice-write-dst
-    add-i
-    loop-less
+    (λ c. omega arith) (λ c. omega arith) (λ c. omega arith) (λ c. omega arith) (λ c. omega arith)
     loop-again
     same-length
     returns)

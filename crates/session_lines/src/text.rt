@@ -5,7 +5,7 @@ ghost use Prim.Native.Nat.{_+_, _≤_};
 ghost use lib.ListN.{length, take};
 ghost use lib.Seq.{paste};
 ghost use lib.Ieee.{binary32, toBits};
-ghost use Rattle.session_file.specs.Text.{room, said, fitting, decimalText, signedText, bitsText};
+ghost use Rattle.session_lines.specs.Text.{room, said, fitting, decimalText, signedText, bitsText};
 use crate::ROOM;
 use crate::copy_to;
 use session_words::least;

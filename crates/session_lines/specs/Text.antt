@@ -7,7 +7,7 @@ use lib.Dec.{ltb}
 use lib.IntN.{ℤ, pos, negsuc}
 use lib.Ieee.{Float, binary32, toBits}
 use Rattle.io.specs.Digits.{digits}
-use Rattle.session_file.specs.declared.text.Text.{Text}
+use Rattle.session_lines.specs.declared.text.Text.{Text}
 use Rattle.session_words.specs.Bytes.{minus}
 
 -- at most so many decimal digits of a number: those of its tenth, if that is not 0, and the last one

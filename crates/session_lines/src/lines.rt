@@ -1,7 +1,7 @@
 // The line that is being read: its bytes so far, as they come in blocks.
 ghost use mathlib.Core.Path.{_≡_};
 ghost use mathlib.Core.List.{[]};
-ghost use Rattle.session_file.specs.Lines.{kept, keptOf, withMore};
+ghost use Rattle.session_lines.specs.Lines.{kept, keptOf, withMore};
 use crate::LONGEST;
 use crate::copy_to;
 use session_words::least;

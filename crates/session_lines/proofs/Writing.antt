@@ -13,7 +13,7 @@ use lib.Dec.{T, leb, lit<}
 use lib.Ieee.{Float, nan, inf, fin, isNan, eq, up, down}
 use borrow.Author.Tests.{lt-ltb, le-ltb, eq-eqb, leb-false}
 use Rattle.io.specs.Digits.{glyph, digits, Fewest}
-use Rattle.session_file.specs.Text.{lastDigits, decimalText}
+use Rattle.session_lines.specs.Text.{lastDigits, decimalText}
 use Rattle.session_words.proofs.Lists.{cond-true, cond-false, take-least, take-two}
 
 -- ---- room
@@ -35,7 +35,8 @@ finds-room room len d more h =
 
 -- the same after the copy
 pub copied : (room len : ℕ) (d more : List ℕ) → length d ≡ room
-    → take (min len room + min (length more) (room - min len room)) (paste d (min len room) more (min (length more) (room - min len room))) ≡ take room (take len d ++ more)
+    → take (min len room + min (length more) (room - min len room)) (paste d (min len room) more (min (length more) (room - min len room))) ≡ take room
+    (take len d ++ more)
 copied room len d more h = take-paste d (min len room) more (min (length more) (room - min len room)) (omega arith) (omega arith) ∙ finds-room room len d more h
 
 -- where it fills the room, the whole list is taken

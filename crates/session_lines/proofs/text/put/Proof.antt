@@ -1,34 +1,20 @@
--- `session_file::text::put` meets its contract: the copy takes what a text says, as far as there is room.
+-- `session_lines::text::put` meets its contract: the copy takes what a text says, as far as there is room.
 use Prim.Native.Nat.{_+_, _-_, _≤_, min}
 use mathlib.Core.List.{_++_}
 use mathlib.Core.Path.{_≡_, sym, ap, _∙_}
 use native.Mathlib.Omega.{arith}
 use lib.ListN.{length, take, drop, length-take}
 use lib.Seq.{paste, paste-zero, take-take}
-use Rattle.session_file.specs.Text.{room, said, fitting}
+use Rattle.session_lines.specs.Text.{room, said, fitting}
 use borrow.Author.Needs.{needs}
-use Rattle.session_file.proofs.text.put.Statement.{statement}
-use Rattle.session_file.proofs.text.put.Tie as tie
-use Rattle.session_file.proofs.text.put.Reads as reads
-use Rattle.session_file.proofs.text.put.Lts as lts
+use Rattle.session_lines.proofs.text.put.Statement.{statement}
+use Rattle.session_lines.proofs.text.put.Tie as tie
 
 returns : tie.Need-returns
 returns c =
     let a = c .before .before .args in
     let e : fitting (said (a .text)) (a .out .now) (a .at) ≡ 0 = omega arith in
     (omega arith, paste-zero (a .out .now) (a .at) (said (a .text)) ∙ ap (paste (a .out .now) (a .at) (said (a .text))) (sym e))
-
-least-requires : tie.Need-least-requires
-least-requires c κs = search needs
-
-sub-least : tie.Need-sub-least
-sub-least c = search needs
-
-least-requires-2 : tie.Need-least-requires-2
-least-requires-2 c κs = search needs
-
-slice-aggregate-copy-to : tie.Need-slice-aggregate-copy-to
-slice-aggregate-copy-to c = search needs
 
 copy-to-requires : tie.Need-copy-to-requires
 copy-to-requires c κs =
@@ -37,12 +23,6 @@ copy-to-requires c κs =
     let r : a .at + c .before .before .before .least2 .result ≤ length (a .out .now) = omega (arith, c .before .before .before .least2 .ensures) in
     (r, omega (arith, c .before .before .before .least2 .ensures, c .before .before .before .before .least .ensures))
 
-add-result : tie.Need-add-result
-add-result c = search needs
-
-same-length : tie.Need-same-length
-same-length c = search needs
-
 returns-2 : tie.Need-returns-2
 returns-2 c =
     let a = c .before .before .before .before .before .before .before .before .before .before .args in
@@ -50,8 +30,14 @@ returns-2 c =
     let n = c .before .before .before .before .before .before .least2 .result in
     let f : n ≡ fitting (said (a .text)) (a .out .now) (a .at) =
     c .before .before .before .before .before .before .least2 .ensures
-    ∙ ap (λ x. min x (length (a .out .now) - a .at)) (c .before .before .before .before .before .before .before .least .ensures ∙ ap (min (a .text .length)) (sym l) ∙ sym (length-take (a .text .length) (a .text .bytes))) in
-    let m : n ≤ a .text .length = omega (arith, c .before .before .before .before .before .before .least2 .ensures, c .before .before .before .before .before .before .before .least .ensures) in (
+    ∙ ap (λ x. min x (length (a .out .now) - a .at)) (c .before .before .before .before .before .before .before .least .ensures
+    ∙ ap (min (a .text .length)) (sym l) ∙ sym (length-take (a .text .length) (a .text .bytes))) in
+    let m : n ≤ a .text .length =
+    omega (
+      arith,
+      c .before .before .before .before .before .before .least2 .ensures,
+      c .before .before .before .before .before .before .before .least .ensures,
+    ) in (
       ap (λ x. a .at + x) f,
       c .before .before .copy-to .ensures
           ∙ ap (λ x. take (a .at) (a .out .now) ++ x ++ drop (a .at + n) (a .out .now)) (sym (take-take n (a .text .length) (a .text .bytes) m))
@@ -63,11 +49,7 @@ put-spec =
     tie.close
     (tie.spec
     returns
-    least-requires
-    sub-least
-    least-requires-2
-    slice-aggregate-copy-to
+    (λ c κs. search needs) (λ c. search needs) (λ c κs. search needs) (λ c. search needs)
     copy-to-requires
-    add-result
-    same-length
+    (λ c. search needs) (λ c. search needs)
     returns-2)
