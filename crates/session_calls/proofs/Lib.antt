@@ -1,4 +1,4 @@
--- The laws behind the proofs of a session file's calls.
-mod Choices
-mod Lists
-mod Tables
+-- The laws behind the proofs of a line's row, in the order in which they stand on each other.
+pub mod Comparing
+pub mod Apart
+pub mod Tables

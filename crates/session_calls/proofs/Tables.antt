@@ -1,41 +1,68 @@
--- The whole table by its parts, and a line by its words as the code marks them.
-use Prim.Native.Nat.{ℕ, _≤_, _<_}
-use mathlib.Core.Path.{_≡_, refl, sym, ap, ap₂, fun-ext, _∙_}
-use mathlib.Core.Bool.{true, false, cond}
-use mathlib.Core.List.{List, [], _∷_, _++_}
+-- A table of calls by the numbers of its rows, where it stands in parts.
+use Prim.Native.Nat.{ℕ, zero, suc, _-_, _≤_, _<_}
+use mathlib.Core.Path.{_≡_, refl, ap, _∙_}
+use mathlib.Core.Bool.{Bool, true, false, cond}
+use mathlib.Core.List.{List, [], _∷_, _++_, map}
+use native.Mathlib.Omega.{arith}
 use lib.ListN.{length}
-use borrow.Author.Tests.{le-leb, lt-leb}
-use Rattle.session_words.proofs.Lists.{cond-true, cond-false}
-use Rattle.session_words.specs.Words.{Marks, marked, mostWords, wordsOf}
-use Rattle.session_words.specs.declared.Words.{Words}
-use Rattle.session_calls.specs.Asked.{Asked, malformed}
-use Rattle.session_calls.specs.Table.{Row, _asks_, firstOf, says, list, readingRows, sweepRows, watchRows, powerRows, table, askedOf}
+use Rattle.session_words.specs.Words.{wordsOf}
+use Rattle.session_calls.specs.Grammar.{fits, firstFit}
+use Rattle.session_calls.specs.Table.{Row, _asks_, turned, textOf, firstOf, rowAt}
 
-first-append : (a b : List Row) (otherwise : Asked) → firstOf a (firstOf b otherwise) ≡ firstOf (a ++ b) otherwise
-unfolding firstOf
-first-append [] b otherwise = refl
-first-append ((test asks call) ∷ a) b otherwise = ap (λ x. cond test call x) (first-append a b otherwise)
+-- a line has one of the rows, or none
+pub first-most : {A : Type 0} (ws : List (List ℕ)) (rows : List (Row A)) → firstFit (map textOf rows) ws ≤ length rows
+unfolding firstFit
+first-most ws [] = omega arith
+first-most ws ((text asks call) ∷ rows) = go (fits (wordsOf (textOf (text asks call))) ws) (first-most ws rows)
+  where
+    go : (t : Bool) → firstFit (map textOf rows) ws ≤ length rows → cond t 0 (suc (firstFit (map textOf rows) ws)) ≤ suc (length rows)
+    go true h = omega arith
+    go false h = omega arith
 
-module _ (n : ℕ) (w : ℕ → List ℕ) where
-  pub is-list : says n w 0 "list" ≡ true → list n w ≡ firstOf (table n w) malformed
-  unfolding firstOf table
-  is-list e = sym (cond-true _ _ e)
+module _ {A : Type 0} (otherwise : A) (ws : List (List ℕ)) where
+  -- the first row that a line has, by its number
+  pub by-number : (rows : List (Row A)) → rowAt rows otherwise (firstFit (map textOf rows) ws) ws ≡ firstOf rows otherwise ws
+  unfolding firstFit firstOf
+  by-number [] = refl
+  by-number ((text asks call) ∷ rows) = go (fits (wordsOf (textOf (text asks call))) ws) (by-number rows)
+    where
+      go : (t : Bool) → rowAt rows otherwise (firstFit (map textOf rows) ws) ws ≡ firstOf rows otherwise ws
+          → rowAt ((text asks call) ∷ rows) otherwise (cond t 0 (suc (firstFit (map textOf rows) ws))) ws ≡ cond t (call ws) (firstOf rows otherwise ws)
+      go true e = refl
+      go false e = e
 
-  pub no-list : says n w 0 "list" ≡ false → firstOf (readingRows n w) (firstOf (sweepRows n w) (firstOf (watchRows n w) (firstOf (powerRows n w) malformed))) ≡ firstOf (table n w) malformed
-  unfolding firstOf table
-  no-list e =
-      first-append (readingRows n w) (sweepRows n w) (firstOf (watchRows n w) (firstOf (powerRows n w) malformed))
-      ∙ first-append (readingRows n w ++ sweepRows n w) (watchRows n w) (firstOf (powerRows n w) malformed)
-      ∙ first-append (readingRows n w ++ sweepRows n w ++ watchRows n w) (powerRows n w) malformed
-      ∙ sym (cond-false _ _ e)
+  -- a row of the first part
+  pub in-part : (part rest : List (Row A)) (k : ℕ) (any : A) → k < length part → rowAt part any k ws ≡ rowAt (part ++ rest) otherwise k ws
+  in-part [] rest k any h = let z : ⊥ = omega arith in absurd z
+  in-part ((text asks call) ∷ part) rest zero any h = refl
+  in-part ((text asks call) ∷ part) rest (suc k) any h = in-part part rest k any (omega arith)
 
-module _ {s : List ℕ} {w : Words} (marks : Marks s w) where
-  pub few-words : w .count ≤ mostWords → firstOf (table (w .count) (marked s w)) malformed ≡ askedOf s
-  unfolding askedOf
-  few-words h =
-      ap₂ (λ n w. firstOf (table n w) malformed) (marks .count h) (fun-ext (marks .each h))
-      ∙ sym (cond-true _ _ (le-leb (length (wordsOf s)) mostWords (rw (← marks .count h) h)))
+  -- a row after it
+  pub past-part : (part rest : List (Row A)) (k : ℕ) → length part ≤ k → rowAt rest otherwise (k - length part) ws ≡ rowAt (part ++ rest) otherwise k ws
+  past-part [] rest k h = let e : k - 0 ≡ k = omega arith in ap (λ j. rowAt rest otherwise j ws) e
+  past-part ((text asks call) ∷ part) rest zero h = let z : ⊥ = omega arith in absurd z
+  past-part ((text asks call) ∷ part) rest (suc k) h =
+      let e : suc k - suc (length part) ≡ k - length part = omega arith in
+      ap (λ j. rowAt rest otherwise j ws) e ∙ past-part part rest k (omega arith)
 
-  pub many-words : mostWords < w .count → malformed ≡ askedOf s
-  unfolding askedOf
-  many-words h = sym (cond-false _ _ (lt-leb (length (wordsOf s)) mostWords (marks .many h)))
+  -- beyond the last row
+  pub beyond : (rows : List (Row A)) (k : ℕ) → length rows ≤ k → otherwise ≡ rowAt rows otherwise k ws
+  beyond [] k h = refl
+  beyond ((text asks call) ∷ rows) zero h = let z : ⊥ = omega arith in absurd z
+  beyond ((text asks call) ∷ rows) (suc k) h = beyond rows k (omega arith)
+
+-- a row of a part that asks for something of its own
+pub at-turned : {A B : Type 0} (f : A → B) (rows : List (Row A)) (some : A) (any : B) (k : ℕ) (ws : List (List ℕ)) → k < length rows
+    → f (rowAt rows some k ws) ≡ rowAt (map (turned f) rows) any k ws
+at-turned f [] some any k ws h = let z : ⊥ = omega arith in absurd z
+at-turned f ((text asks call) ∷ rows) some any zero ws h = refl
+at-turned f ((text asks call) ∷ rows) some any (suc k) ws h = at-turned f rows some any k ws (omega arith)
+
+-- a number that is none of those below k, as the last arm of a match is told it
+abbrev pub Past : ℕ → ℕ → Type 0
+Past zero n = Unit
+Past (suc k) n = Past k n × (n ≡ k → ⊥)
+
+pub past : (k n : ℕ) → Past k n → k ≤ n
+past zero n p = omega arith
+past (suc k) n p = omega (arith, past k n (p .0), p .1)

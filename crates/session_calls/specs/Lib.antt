@@ -1,4 +1,3 @@
--- The calls of a session file (docs/session-format.md, section Calls). Start with `Asked` and `Table`; `Code` is what the private functions return.
-pub mod Asked
+-- The calls of a session file (docs/session-format.md, section Calls): the words of a row, and a table of rows.
+pub mod Grammar
 pub mod Table
-pub mod Code

@@ -1,119 +1,150 @@
-// What a line of a session file asks for: the call that it writes down, or none.
+// Which row of a table of calls a line has: the table is a text, a row to a line.
 ghost use mathlib.Core.Path.{_≡_};
-ghost use Rattle.session_calls.specs.Asked.{toldRequest};
+ghost use mathlib.Core.List.{[]};
 ghost use Prim.Native.Nat.{_≤_};
-ghost use Rattle.session_words.specs.Words.{marked, mostWords};
-ghost use Rattle.session_calls.specs.Table.{list, askedOf};
+ghost use lib.ListN.{length, drop};
+ghost use Rattle.session_words.specs.Bytes.{alike};
+ghost use Rattle.session_words.specs.Words.{wordsOf};
+ghost use Rattle.session_numbers.specs.Numbers.{naturalOf, intOf, numOf};
+ghost use Rattle.session_calls.specs.Grammar.{has, many, mostChannels, channelsUpTo, fitsWord, fits, rowsOf, firstFit};
+use bytes::scan::find;
+use session_numbers::BYTE_HIGHEST;
+use session_numbers::CH_HIGHEST;
+use session_numbers::IntWord;
+use session_numbers::NaturalWord;
+use session_numbers::NumWord;
+use session_numbers::int;
+use session_numbers::natural;
+use session_numbers::num;
+use session_values::LISTED;
+use session_words::NEWLINE;
+use session_words::SPACE;
+use session_words::same;
 
-mod rows;
-mod words;
-
-use power_rules::Decoded;
-use power_rules::PowerParameters;
-use readings::Burst;
-use rows::power_call;
-use rows::reading_call;
-use rows::sweep_call;
-use rows::watch_call;
-use rows::without_list;
-use session_numbers::ChannelWord;
-use session_words::WORDS;
-use session_words::Words;
-use session_words::split;
-use words::channel_at;
-use words::says;
-
-pub enum ReadingCall {
-    Level(f32),
-    Quality(f32),
-    ShowLevel(i32),
-    ShowQuality(i32),
-}
-
-// The calls on the sweep, its outcome bytes and the choice over them.
-pub enum SweepCall {
-    Fresh,
-    File(u16, Burst),
-    RestMissed,
-    Next,
-    Counts,
-    SetOutcome(u16, u8),
-    Choose(i32),
-}
-
-// The channels of a new list stand beside the call.
-pub enum WatchCall {
-    Start(u16),
-    NewList,
-    Move(u16),
-    File(u16, Burst),
-    Ask(u16),
-    Verdict(i32),
-}
-
-pub enum PowerCall {
-    SetParameters(PowerParameters),
-    Start,
-    Step(Decoded, i32),
-}
-
-pub enum Call {
-    Reading(ReadingCall),
-    Sweep(SweepCall),
-    Watch(WatchCall),
-    Power(PowerCall),
-    Malformed,
-}
-
-// The most channels of a list in a session file: more than a watch takes, so that its refusal can be seen.
-pub const LIST_MOST: usize = 8;
-
-// The first `count` numbers are the channels of a list.
-pub struct Channels {
-    pub count: usize,
-    pub numbers: [u16; LIST_MOST],
-}
-
-// A call, with the channels of its list where it is a new list.
-pub struct Request {
-    pub call: Call,
-    pub list: Channels,
-}
-
-// `list CH CH ..`
-fn new_list(line: &[u8], words: Words) -> Request
-    requires { ⌜ words .count ≤ mostWords ⌝ }
-    ensures { λ r. ⌜ toldRequest r ≡ list (words .count) (marked (now (line .entry)) words) ⌝ }
+fn is_natural(word: &[u8], highest: u64) -> bool
+    ensures { λ r. ⌜ r ≡ has (naturalOf highest (now (word .entry))) ⌝ }
 {
-    let mut numbers = [0; LIST_MOST];
-    let mut count = 0;
-    while count + 1 < words.count {
-        let ChannelWord::Number(c) = channel_at(line, words, count + 1) else {
-            return without_list(Call::Malformed);
-        };
-        numbers[count] = c;
-        count += 1;
-    }
-    let list = Channels { count, numbers };
-    Request {
-        call: Call::Watch(WatchCall::NewList),
-        list,
+    match natural(word, highest) {
+        NaturalWord::Value(_) => true,
+        NaturalWord::Malformed => false,
     }
 }
 
-// The call that a line writes down.
-pub fn call_of(line: &[u8]) -> Request
-    ensures { λ r. ⌜ toldRequest r ≡ askedOf (now (line .entry)) ⌝ }
+fn is_int(word: &[u8]) -> bool
+    ensures { λ r. ⌜ r ≡ has (intOf (now (word .entry))) ⌝ }
 {
-    let words = split(line);
-    if words.count > WORDS {
-        return without_list(Call::Malformed);
+    match int(word) {
+        IntWord::Value(_) => true,
+        IntWord::Malformed => false,
     }
-    if says(line, words, 0, b"list") {
-        return new_list(line, words);
+}
+
+fn is_num(word: &[u8]) -> bool
+    ensures { λ r. ⌜ r ≡ has (numOf (now (word .entry))) ⌝ }
+{
+    match num(word) {
+        NumWord::Value(_) => true,
+        NumWord::Malformed => false,
     }
-    let call = power_call(line, words, Call::Malformed);
-    let call = watch_call(line, words, call);
-    let call = sweep_call(line, words, call);
-    without_list(reading_call(line, words, call))
+}
+
+// Whether a word of a line is what a word of a row asks for.
+fn fits_word(asked: &[u8], word: &[u8]) -> bool
+    ensures { λ r. ⌜ r ≡ fitsWord (now (asked .entry)) (now (word .entry)) ⌝ }
+{
+    if same(asked, b"CH") {
+        return is_natural(word, CH_HIGHEST);
+    }
+    if same(asked, b"INT") {
+        return is_int(word);
+    }
+    if same(asked, b"BYTE") {
+        return is_natural(word, BYTE_HIGHEST);
+    }
+    if same(asked, b"NUM") {
+        return is_num(word);
+    }
+    same(asked, word)
+}
+
+// Whether a word of a row stands for all words that are left, as channels.
+fn is_many(asked: &[u8]) -> bool
+    ensures { λ r. ⌜ r ≡ alike (now (asked .entry)) many ⌝ }
+{
+    same(asked, b"CH..")
+}
+
+// Whether the words of a line from a place on are channels, and not too many.
+fn are_channels(line: &[u8], from: usize) -> bool
+    requires { ⌜ from ≤ length (now line) ⌝ }
+    ensures { λ r. ⌜ r ≡ channelsUpTo mostChannels (wordsOf (drop from (now (line .entry)))) ⌝ }
+{
+    let mut at = from;
+    let mut left = LISTED;
+    while left > 0 {
+        let end = find(line, at, line.len(), SPACE);
+        if !is_natural(&line[at..end], CH_HIGHEST) {
+            return false;
+        }
+        if end == line.len() {
+            return true;
+        }
+        at = end + 1;
+        left -= 1;
+    }
+    false
+}
+
+// Whether a line that has no more words has the words of a row from a place on.
+fn fits_nothing(row: &[u8], from: usize) -> bool
+    requires { ⌜ from ≤ length (now row) ⌝ }
+    ensures { λ r. ⌜ r ≡ fits (wordsOf (drop from (now (row .entry)))) [] ⌝ }
+{
+    let end = find(row, from, row.len(), SPACE);
+    is_many(&row[from..end])
+}
+
+// Whether a line has a row: word by word.
+fn fits(row: &[u8], line: &[u8]) -> bool
+    ensures { λ r. ⌜ r ≡ fits (wordsOf (now (row .entry))) (wordsOf (now (line .entry))) ⌝ }
+{
+    let mut i = 0;
+    let mut j = 0;
+    loop {
+        let p = find(row, i, row.len(), SPACE);
+        if is_many(&row[i..p]) {
+            return are_channels(line, j);
+        }
+        let q = find(line, j, line.len(), SPACE);
+        if !fits_word(&row[i..p], &line[j..q]) {
+            return false;
+        }
+        if p == row.len() {
+            return q == line.len();
+        }
+        i = p + 1;
+        if q == line.len() {
+            return fits_nothing(row, i);
+        }
+        j = q + 1;
+    }
+}
+
+// The number of the first row of a table that a line has; where it has none, the number of rows.
+pub fn row_of(table: &[u8], line: &[u8]) -> usize
+    ensures { λ r. ⌜ r ≡ firstFit (rowsOf (now (table .entry))) (wordsOf (now (line .entry))) ⌝ }
+{
+    let mut at = 0;
+    let mut row = 0;
+    loop {
+        let end = find(table, at, table.len(), NEWLINE);
+        if fits(&table[at..end], line) {
+            return row;
+        }
+        if end == table.len() {
+            return row + 1;
+        }
+        at = end + 1;
+        row += 1;
+    }
 }
