@@ -1,7 +1,7 @@
 -- Session files, section Calls and what they write: the line of each answer, over what is told of it.
 use Prim.Native.Nat.{ℕ}
 use mathlib.Core.List.{List, [], _∷_, _++_}
-use lib.IntN.{ℤ}
+use lib.IntN.{ℤ, natAbs}
 use lib.Ieee.{Float}
 use Rattle.refusal.specs.Told.{Told, gives, refused}
 use Rattle.sweep_rules.specs.Next.{Next, channel, done}
@@ -10,15 +10,16 @@ use Rattle.choice_rules.specs.Choose.{Chosen, camp, read, noBeam}
 use Rattle.watch_rules.specs.Told.{Given, accepted, levels, wait, stay, moveTo}
 use Rattle.power_rules.specs.Calls.{ToSend}
 use Rattle.session_words.specs.Bytes.{bytesOf}
-use Rattle.session_file.specs.Lines.{newline}
-use Rattle.session_file.specs.Text.{decimalText, signedText, bitsText}
+use Rattle.session_words.specs.Bytes.{newline}
+use Rattle.session_lines.specs.Text.{bitsText}
+use Rattle.session_answers.specs.Filled.{filled, says}
 
 -- every line written ends with a newline
 abbrev pub line : List ℕ → List ℕ
 line text = text ++ (newline ∷ [])
 
 abbrev pub refusedText : ℕ → List ℕ
-refusedText n = bytesOf "refused " ++ decimalText n
+refusedText n = says "refused A" (n ∷ [])
 
 -- the line of an answer, by the text of what an accepted call gives
 abbrev pub answerLine : {A : Type 0} → (A → List ℕ) → Told A → List ℕ
@@ -26,35 +27,35 @@ answerLine text (gives a) = line (text a)
 answerLine text (refused n) = line (refusedText n)
 
 abbrev pub acceptedText : List ℕ
-acceptedText = bytesOf "accepted"
+acceptedText = says "accepted" []
 
 abbrev pub hundredthsText : ℤ → List ℕ
-hundredthsText h = bytesOf "hundredths " ++ signedText h
+hundredthsText h = filled (bytesOf "hundredths Z") [] h
 
 abbrev pub floatText : Float → List ℕ
 floatText x = bytesOf "float 0x" ++ bitsText x
 
 abbrev pub nextText : Next → List ℕ
-nextText (channel c) = bytesOf "next " ++ decimalText c
-nextText done = bytesOf "done"
+nextText (channel c) = says "next A" (c ∷ [])
+nextText done = says "done" []
 
 abbrev pub countsText : Counts → List ℕ
-countsText n = bytesOf "visited " ++ decimalText (n .visited) ++ bytesOf " heard " ++ decimalText (n .heard)
+countsText n = says "visited A heard B" (n .visited ∷ n .heard ∷ [])
 
 abbrev pub choiceText : Chosen → List ℕ
-choiceText (camp c n) = bytesOf "camp " ++ decimalText c ++ bytesOf " tried " ++ decimalText n
-choiceText (read c n) = bytesOf "read " ++ decimalText c ++ bytesOf " tried " ++ decimalText n
-choiceText (noBeam n) = bytesOf "no beam tried " ++ decimalText n
+choiceText (camp c n) = says "camp A tried B" (c ∷ n ∷ [])
+choiceText (read c n) = says "read A tried B" (c ∷ n ∷ [])
+choiceText (noBeam n) = says "no beam tried A" (n ∷ [])
 
 abbrev pub watchText : Given → List ℕ
 watchText accepted = acceptedText
-watchText (levels count mean) = bytesOf "count " ++ decimalText count ++ bytesOf " mean " ++ signedText mean
-watchText wait = bytesOf "wait"
-watchText stay = bytesOf "stay"
-watchText (moveTo c) = bytesOf "move " ++ decimalText c
+watchText (levels count mean) = filled (bytesOf "count A mean Z") (count ∷ []) mean
+watchText wait = says "wait" []
+watchText stay = says "stay" []
+watchText (moveTo c) = says "move A" (c ∷ [])
 
 abbrev pub powerText : ToSend → List ℕ
-powerText s = bytesOf "par " ++ signedText (s .par) ++ bytesOf " pan " ++ signedText (s .pan)
+powerText s = says "par A pan B" (natAbs (s .par) ∷ natAbs (s .pan) ∷ [])
 
 unfoldable pub outcomeLine : Told Unit → List ℕ
 outcomeLine = answerLine (λ _. acceptedText)
@@ -81,5 +82,5 @@ unfoldable pub powerLine : Told ToSend → List ℕ
 powerLine = answerLine powerText
 
 -- what is written for a line that is none of the calls, by its number in the file
-unfoldable pub errorLine : ℕ → List ℕ
-errorLine n = line (bytesOf "error line " ++ decimalText n)
+abbrev pub errorLine : ℕ → List ℕ
+errorLine n = line (says "error line A" (n ∷ []))

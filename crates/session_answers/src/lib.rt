@@ -1,32 +1,41 @@
 // Each answer of the library as the line that a session file's answers are written as, with its newline.
 ghost use mathlib.Core.Path.{_≡_};
 ghost use mathlib.Core.List.{[], _∷_, _++_};
-ghost use Prim.Native.Nat.{_+_, _<_};
-ghost use lib.ListN.{length, take};
+ghost use Prim.Native.Nat.{_<_, _≤_};
+ghost use mathlib.Core.Bool.{true};
+ghost use lib.ListN.{length, getD, take};
 ghost use Rattle.refusal.specs.Number.{numberOf};
 ghost use Rattle.refusal.specs.Told.{toldOutcome};
 ghost use Rattle.readings.specs.Told.{toldHundredths, toldShown};
 ghost use Rattle.sweep_rules.specs.Told.{toldNext, toldNumbers};
 ghost use Rattle.choice_rules.specs.Told.{toldChoice};
-ghost use Rattle.watch_rules.specs.Told.{told, levels};
+ghost use Rattle.watch_rules.specs.Told.{told};
 ghost use Rattle.power_rules.specs.Told.{toldAnswer};
-ghost use Rattle.session_file.specs.Lines.{newline};
-ghost use Rattle.session_file.specs.Text.{room, said, decimalText};
-ghost use Rattle.session_answers.specs.Lines.{line, refusedText, hundredthsText, floatText, watchText};
+ghost use Rattle.session_words.specs.Bytes.{newline};
+ghost use Rattle.session_lines.specs.Text.{room, said};
+ghost use Rattle.session_answers.specs.Lines.{line, refusedText, floatText};
+ghost use Rattle.session_answers.specs.Filled.{standsFor, piece, filled, Run, widest};
 ghost use Rattle.session_answers.specs.Lines.{outcomeLine, hundredthsLine, floatLine, nextLine, countsLine, choiceLine, watchLine, powerLine, errorLine};
 use choice_rules::Choice;
 use readings::Hundredths;
 use readings::Shown;
 use refusal::Outcome;
 use refusal::Refusal;
-use session_file::Text;
-use session_file::nothing;
-use session_file::with;
-use session_file::with_bits;
-use session_file::with_decimal;
-use session_file::with_signed;
+use session_lines::Text;
+use session_lines::nothing;
+use session_lines::with;
+use session_lines::with_bits;
+use session_lines::with_decimal;
+use session_lines::with_signed;
 use sweep_rules::NextChannel;
 use sweep_rules::Numbers;
+
+// What stands in a template for the numbers, the first to the last, and for the one with a sign.
+const FIRST_NUMBER: u8 = b'A';
+
+const LAST_NUMBER: u8 = b'F';
+
+const SIGNED: u8 = b'Z';
 
 // The text with a newline after it.
 fn ended(text: Text) -> Text
@@ -35,41 +44,69 @@ fn ended(text: Text) -> Text
     with(text, b"\n")
 }
 
-// Words alone. Here and below, what is written finds room whatever the numbers are: none has more than 20 digits.
-fn only(words: &[u8]) -> Text
-    requires { ⌜ length (now words) < room ⌝ }
-    ensures { λ r. ⌜ said r ≡ line (now (words .entry)) ⌝ }
+// The number at a place; beyond the last, 0.
+fn number_at(numbers: &[u64], k: usize) -> u64
+    ensures { λ r. ⌜ r ≡ getD (now (numbers .entry)) k 0 ⌝ }
 {
-    ended(with(nothing(), words))
+    if k < numbers.len() { numbers[k] } else { 0 }
 }
 
-// Words and a number.
-fn one(head: &[u8], n: u64) -> Text
-    requires { ⌜ length (now head) + 20 < room ⌝ }
-    ensures { λ r. ⌜ said r ≡ line (now (head .entry) ++ decimalText n) ⌝ }
+// Whether a byte of a template stands for a number.
+fn is_number(b: u8) -> bool
+    ensures { λ r. ⌜ r ≡ standsFor b ⌝ }
 {
-    ended(with_decimal(with(nothing(), head), n))
+    (b == SIGNED) | ((b >= FIRST_NUMBER) & (b <= LAST_NUMBER))
 }
 
-// Words and a number, twice.
-fn two(head: &[u8], n: u32, mid: &[u8], m: u32) -> Text
-    requires { ⌜ length (now head) + 20 + length (now mid) + 20 < room ⌝ }
-    ensures { λ r. ⌜ said r ≡ line (now (head .entry) ++ decimalText n ++ now (mid .entry) ++ decimalText m) ⌝ }
+// Where the bytes of a template from a place on that stand for themselves end.
+fn run_end(template: &[u8], from: usize) -> usize
+    requires { ⌜ from ≤ length (now template) ⌝ }
+    ensures { λ r. ⌜ Run (now (template .entry)) from r ⌝ }
 {
-    let first = with_decimal(with(nothing(), head), n as u64);
-    ended(with_decimal(with(first, mid), m as u64))
+    let mut i = from;
+    while i < template.len() {
+        if is_number(template[i]) {
+            return i;
+        }
+        i += 1;
+    }
+    i
+}
+
+// The text with the number after it that a byte of a template stands for.
+fn with_number(text: Text, b: u8, numbers: &[u64], signed: i32) -> Text
+    requires { ⌜ standsFor b ≡ true ⌝ }
+    ensures { λ r. ⌜ said r ≡ take room (said text ++ piece (now (numbers .entry)) signed b) ⌝ }
+{
+    if b == SIGNED {
+        return with_signed(text, signed);
+    }
+    with_decimal(text, number_at(numbers, (b - FIRST_NUMBER) as usize))
+}
+
+// The line of a template: `A` to `F` stand for the numbers, in their order, and `Z` for the one with a sign. It finds room whatever the
+// numbers are: none has more than 20 digits.
+fn filled(template: &[u8], numbers: &[u64], signed: i32) -> Text
+    requires { ⌜ widest (now template) < room ⌝ }
+    ensures { λ r. ⌜ said r ≡ line (filled (now (template .entry)) (now (numbers .entry)) signed) ⌝ }
+{
+    let mut text = nothing();
+    let mut at = 0;
+    loop {
+        let end = run_end(template, at);
+        text = with(text, &template[at..end]);
+        if end == template.len() {
+            return ended(text);
+        }
+        text = with_number(text, template[end], numbers, signed);
+        at = end + 1;
+    }
 }
 
 fn refused(why: Refusal) -> Text
     ensures { λ r. ⌜ said r ≡ line (refusedText (numberOf why)) ⌝ }
 {
-    one(b"refused ", refusal::number(why) as u64)
-}
-
-fn hundredths(h: i32) -> Text
-    ensures { λ r. ⌜ said r ≡ line (hundredthsText h) ⌝ }
-{
-    ended(with_signed(with(nothing(), b"hundredths "), h))
+    filled(b"refused A", &[refusal::number(why) as u64], 0)
 }
 
 fn float(x: f32) -> Text
@@ -78,20 +115,12 @@ fn float(x: f32) -> Text
     ended(with_bits(with(nothing(), b"float 0x"), x))
 }
 
-// The number of levels kept for a channel, and their mean.
-fn asked(count: u64, mean: i32) -> Text
-    ensures { λ r. ⌜ said r ≡ line (watchText (levels count mean)) ⌝ }
-{
-    let first = with_decimal(with(nothing(), b"count "), count);
-    ended(with_signed(with(first, b" mean "), mean))
-}
-
 // The answer of a call that gives no value.
 pub fn of_outcome(answer: Outcome) -> Text
     ensures { λ r. ⌜ said r ≡ outcomeLine (toldOutcome answer) ⌝ }
 {
     match answer {
-        Outcome::Accepted => only(b"accepted"),
+        Outcome::Accepted => filled(b"accepted", &[], 0),
         Outcome::Refused(why) => refused(why),
     }
 }
@@ -101,7 +130,7 @@ pub fn of_hundredths(answer: Hundredths) -> Text
     ensures { λ r. ⌜ said r ≡ hundredthsLine (toldHundredths answer) ⌝ }
 {
     match answer {
-        Hundredths::Value(h) => hundredths(h),
+        Hundredths::Value(h) => filled(b"hundredths Z", &[], h),
         Hundredths::Refused(why) => refused(why),
     }
 }
@@ -121,8 +150,8 @@ pub fn of_next(answer: NextChannel) -> Text
     ensures { λ r. ⌜ said r ≡ nextLine (toldNext answer) ⌝ }
 {
     match answer {
-        NextChannel::Channel(c) => one(b"next ", c as u64),
-        NextChannel::Done => only(b"done"),
+        NextChannel::Channel(c) => filled(b"next A", &[c as u64], 0),
+        NextChannel::Done => filled(b"done", &[], 0),
         NextChannel::Refused(why) => refused(why),
     }
 }
@@ -132,7 +161,11 @@ pub fn of_counts(answer: Numbers) -> Text
     ensures { λ r. ⌜ said r ≡ countsLine (toldNumbers answer) ⌝ }
 {
     match answer {
-        Numbers::Of { visited, heard } => two(b"visited ", visited, b" heard ", heard),
+        Numbers::Of { visited, heard } => filled(
+            b"visited A heard B",
+            &[visited as u64, heard as u64],
+            0,
+        ),
         Numbers::Refused(why) => refused(why),
     }
 }
@@ -142,9 +175,17 @@ pub fn of_choice(answer: Choice) -> Text
     ensures { λ r. ⌜ said r ≡ choiceLine (toldChoice answer) ⌝ }
 {
     match answer {
-        Choice::Camp { channel, tried } => two(b"camp ", channel as u32, b" tried ", tried),
-        Choice::Read { channel, tried } => two(b"read ", channel as u32, b" tried ", tried),
-        Choice::NoBeam { tried } => one(b"no beam tried ", tried as u64),
+        Choice::Camp { channel, tried } => filled(
+            b"camp A tried B",
+            &[channel as u64, tried as u64],
+            0,
+        ),
+        Choice::Read { channel, tried } => filled(
+            b"read A tried B",
+            &[channel as u64, tried as u64],
+            0,
+        ),
+        Choice::NoBeam { tried } => filled(b"no beam tried A", &[tried as u64], 0),
         Choice::Refused(why) => refused(why),
     }
 }
@@ -154,12 +195,16 @@ pub fn of_watch(answer: watch_rules::Answer) -> Text
     ensures { λ r. ⌜ said r ≡ watchLine (told answer) ⌝ }
 {
     match answer {
-        watch_rules::Answer::Accepted => only(b"accepted"),
+        watch_rules::Answer::Accepted => filled(b"accepted", &[], 0),
         watch_rules::Answer::Refused(why) => refused(why),
-        watch_rules::Answer::Levels { count, mean } => asked(count as u64, mean),
-        watch_rules::Answer::Wait => only(b"wait"),
-        watch_rules::Answer::Stay => only(b"stay"),
-        watch_rules::Answer::MoveTo(c) => one(b"move ", c as u64),
+        watch_rules::Answer::Levels { count, mean } => filled(
+            b"count A mean Z",
+            &[count as u64],
+            mean,
+        ),
+        watch_rules::Answer::Wait => filled(b"wait", &[], 0),
+        watch_rules::Answer::Stay => filled(b"stay", &[], 0),
+        watch_rules::Answer::MoveTo(c) => filled(b"move A", &[c as u64], 0),
     }
 }
 
@@ -168,7 +213,11 @@ pub fn of_power(answer: power_rules::Answer) -> Text
     ensures { λ r. ⌜ said r ≡ powerLine (toldAnswer answer) ⌝ }
 {
     match answer {
-        power_rules::Answer::Send { par, pan } => two(b"par ", par, b" pan ", pan),
+        power_rules::Answer::Send { par, pan } => filled(
+            b"par A pan B",
+            &[par as u64, pan as u64],
+            0,
+        ),
         power_rules::Answer::Refused(why) => refused(why),
     }
 }
@@ -177,5 +226,5 @@ pub fn of_power(answer: power_rules::Answer) -> Text
 pub fn of_error(line: u64) -> Text
     ensures { λ r. ⌜ said r ≡ errorLine line ⌝ }
 {
-    one(b"error line ", line)
+    filled(b"error line A", &[line], 0)
 }

@@ -5,21 +5,8 @@ use borrow.Author.Needs.{needs}
 use Rattle.session_answers.proofs.refused.Statement.{statement}
 use Rattle.session_answers.proofs.refused.Tie as tie
 
-slice-aggregate-one : tie.Need-slice-aggregate-one
-slice-aggregate-one c = search needs
-
-number-requires : tie.Need-number-requires
-number-requires c κs = search needs
-
-cast-one : tie.Need-cast-one
-cast-one c = search needs
-
-one-requires : tie.Need-one-requires
-one-requires c κs = search needs
-
 returns : tie.Need-returns
-returns c = c .one .ensures ∙ ap (λ n. line (refusedText n)) (c .before .number .ensures)
+returns c = c .filled .ensures ∙ ap (λ n. line (refusedText n)) (c .before .before .number .ensures)
 
 pub refused-spec : {M : Type 1} → statement M
-refused-spec =
-    tie.close (tie.spec slice-aggregate-one number-requires cast-one one-requires returns)
+refused-spec = tie.close (tie.spec (λ c. search needs) (λ c κs. search needs) (λ c. search needs) (λ c. search needs) (λ c κs. search needs) returns)

@@ -1,0 +1,90 @@
+-- `session_answers::filled` meets its contract: a run of bytes that stand for themselves, then a number, and so on.
+use Prim.Native.Nat.{_≤_, _<_, _-_, _+_}
+use mathlib.Core.Path.{_≡_, sym, ap, _∙_}
+use mathlib.Core.List.{_++_}
+use native.Mathlib.Omega.{arith}
+use lib.ListN.{length, take, drop}
+use mir.Syntax.{w32}
+use mir.Val.{toZ, ofZ}
+use mir.ValLaws.{toZ-ofZ}
+use Rattle.session_words.specs.Words.{between}
+use Rattle.session_lines.specs.Text.{room, said}
+use Rattle.session_answers.specs.Filled.{filled}
+use Rattle.session_answers.specs.Lines.{line}
+use Rattle.session_answers.proofs.Room.{piece-at, filled-on, filled-end}
+use borrow.Author.Needs.{needs}
+use Rattle.session_answers.proofs.filled.Statement.{statement}
+use Rattle.session_answers.proofs.filled.Tie as tie
+
+abbrev Inv-loop : tie.InvT-loop
+Inv-loop template numbers signed text₀ at₀ text at =
+    (at ≤ length template)
+    × (take room (filled template numbers (toZ w32 signed)) ≡ take room (said text ++ filled (drop at template) numbers (toZ w32 signed)))
+
+abbrev μ-loop : tie.MeasureT-loop
+μ-loop template numbers signed text₀ at₀ text at = length template - at
+
+loop-holds : tie.Need-loop-holds Inv-loop μ-loop
+loop-holds c =
+    let a = c .before .before .before .args in
+    (omega arith, ap (λ x. take room (x ++ filled (a .template .now) (a .numbers .now) (toZ w32 (ofZ w32 (a .signed))))) (sym (c .nothing .ensures)))
+
+module _ (c : tie.After-with Inv-loop μ-loop) where
+  abbrev run : tie.After-run-end Inv-loop μ-loop
+  run = c .before .before
+
+  abbrev at : tie.At-loop Inv-loop μ-loop
+  at = run .before
+
+  abbrev start : tie.Start Inv-loop μ-loop
+  start = at .before .before .before .before
+
+  -- once a run is written, what is left to write begins with a number
+  written : take room (filled (start .args .template .now) (start .args .numbers .now) (toZ w32 (ofZ w32 (start .args .signed))))
+      ≡ take room (said (c .with .result) ++ filled (drop (run .run-end .result) (start .args .template .now)) (start .args .numbers .now)
+      (toZ w32 (ofZ w32 (start .args .signed))))
+  written =
+      let t = start .args .template .now in
+      let z = toZ w32 (ofZ w32 (start .args .signed)) in
+      at .loop .inv .1
+      ∙ filled-on (start .args .numbers .now) z t (at .loop .at) (run .run-end .result) (between t (at .loop .at) (run .run-end .result))
+      (said (at .loop .text))
+      (run .run-end .ensures .plain (start .args .numbers .now) z) (c .with .ensures)
+
+returns : tie.Need-returns Inv-loop μ-loop
+returns c =
+    let w = c .before .before in
+    let a = start w .args in
+    filled-end (a .numbers .now) (toZ w32 (ofZ w32 (a .signed))) (a .template .now) (run w .run-end .result) (said (w .with .result))
+    (omega (arith, c .before .if1 .taken))
+    (start w .pre) (written w) (c .ended .ensures)
+    ∙ ap (λ z. line (filled (a .template .now) (a .numbers .now) z)) (toZ-ofZ w32 (a .signed) (start w .fits .signed))
+
+inside : (c : tie.Else1 Inv-loop μ-loop) → run (c .before) .run-end .result < length (start (c .before) .args .template .now)
+inside c = omega (arith, run (c .before) .run-end .ensures .within, c .if1 .left)
+
+loop-again : tie.Need-loop-again Inv-loop μ-loop
+loop-again c =
+    let e = c .before .before in
+    let w = e .before in
+    let a = start w .args in
+    let t = a .template .now in
+    let z = toZ w32 (ofZ w32 (a .signed)) in
+    let i = run w .run-end .result in (
+      omega (arith, inside e),
+      written w ∙ filled-on (a .numbers .now) z t i (i + 1) _ (said (w .with .result)) (piece-at (a .numbers .now) z t i (inside e)) (c .with-number .ensures),
+    )
+
+pub filled-spec : {M : Type 1} → statement M
+filled-spec =
+    tie.close
+    (tie.spec
+    Inv-loop μ-loop
+    (λ c κs. search needs)
+    loop-holds
+    (λ c κs. search needs) (λ c. c .run-end .ensures .begins) (λ c. search needs) (λ c. search needs) (λ c κs. search needs) (λ c κs. search needs)
+    returns
+    (λ c. inside (c .before)) (λ c κs. run (c .before .before) .run-end .ensures .ends (inside (c .before)))
+    (λ c. search needs)
+    (λ c. omega (arith, inside (c .before .before), run (c .before .before .before) .run-end .ensures .begins))
+    loop-again)
