@@ -1,1 +1,3 @@
--- No law of its own: each call is proved by the contract of the one below.
+-- Each call is proved by the contract of the one below; `Parts` has the laws of the table in its parts, `Claims` what is claimed of it.
+pub mod Parts
+mod Claims

@@ -1,32 +1,23 @@
--- Session files, section Calls: what each call does to the state, and the line that it writes.
+-- Session files, section Calls: what a call does to the state, and the line that it writes.
 use Prim.Native.Nat.{ℕ, zero, suc}
 use mathlib.Core.List.{List}
 use lib.ListN.{set}
 use Rattle.refusal.specs.Told.{accepted}
+use lib.IntN.{ℤ}
+use Rattle.readings.specs.declared.Burst.{Burst}
 use Rattle.readings.specs.declared.Burst.the-variants.{Missed}
-use Rattle.readings.specs.Hundredths.{levelOf, qualityOf}
-use Rattle.readings.specs.Float.{levelShown, qualityShown}
 use Rattle.sweep_rules.specs.declared.Sweep.{Sweep}
-use Rattle.sweep_rules.specs.Record.{firstSwept, sweptChannels, freshSweep}
 use Rattle.sweep_rules.specs.Filing.{filing, leaves, answers}
-use Rattle.sweep_rules.specs.Next.{nextTold}
-use Rattle.sweep_rules.specs.Counts.{countsTold}
 use Rattle.choice_rules.specs.Choose.{choosing}
 use Rattle.watch_rules.specs.declared.Watch.{Watch}
-use Rattle.watch_rules.specs.Told as rules
+use Rattle.watch_rules.specs.Told.{Call, Called}
 use Rattle.watch_rules.specs.Record.{called}
+use Rattle.power_rules.specs.declared.Decoded.{Decoded}
 use Rattle.power_rules.specs.declared.PowerRecord.{PowerRecord}
 use Rattle.power_rules.specs.declared.PowerParameters.{PowerParameters}
 use Rattle.power_rules.specs.Calls.{started, stepped}
-use Rattle.session_calls.specs.declared.ReadingCall.{ReadingCall}
-use Rattle.session_calls.specs.declared.ReadingCall.the-variants.{Level, Quality, ShowLevel, ShowQuality}
-use Rattle.session_calls.specs.declared.SweepCall.{SweepCall}
-use Rattle.session_calls.specs.declared.SweepCall.the-variants.{Fresh, File, RestMissed, Next, Counts, SetOutcome, Choose}
-use Rattle.session_calls.specs.declared.PowerCall.{PowerCall}
-use Rattle.session_calls.specs.declared.PowerCall.the-variants.{SetParameters, Start, Step}
-use Rattle.session_calls.specs.Asked.{Asked, reading, sweep, watch, power, malformed}
-use Rattle.session_answers.specs.Lines.{outcomeLine, hundredthsLine, floatLine, nextLine, countsLine, choiceLine, watchLine, powerLine, errorLine}
-use Rattle.session_file.specs.Text.{said}
+use Rattle.session_answers.specs.Lines.{outcomeLine, choiceLine, watchLine, powerLine, errorLine}
+use Rattle.session_lines.specs.Text.{said}
 use Rattle.session_state.specs.declared.state.State.{State}
 use Rattle.session_state.specs.declared.calls.Answered.{Answered}
 
@@ -63,46 +54,41 @@ withPower s x = record { sweep = s .sweep; outcomes = s .outcomes; watch = s .wa
 abbrev pub withParameters : State → PowerParameters → State
 withParameters s x = record { sweep = s .sweep; outcomes = s .outcomes; watch = s .watch; power = s .power; parameters = x }
 
--- `level`, `quality`, `show level`, `show quality`
-abbrev pub readingLine : ReadingCall → List ℕ
-readingLine (Level x) = hundredthsLine (levelOf x)
-readingLine (Quality x) = hundredthsLine (qualityOf x)
-readingLine (ShowLevel h) = floatLine (levelShown h)
-readingLine (ShowQuality h) = floatLine (qualityShown h)
-
 -- "missed" filed for each of n channels from c on: one that was visited is refused, and the record stays as it was
 unfoldable pub missedFrom : ℕ → ℕ → Sweep → Sweep
 missedFrom zero c s = s
 missedFrom (suc n) c s = missedFrom n (suc c) (leaves s (filing s c Missed))
 
--- `sweep fresh`, `sweep file`, `sweep rest missed`, `sweep next`, `sweep counts`, `outcome`, `choose`
-unfoldable pub sweepWritten : State → SweepCall → Written
-sweepWritten s Fresh = accepts (withSweep s freshSweep)
-sweepWritten s (File c b) = record { state = withSweep s (leaves (s .sweep) (filing (s .sweep) c b)); text = outcomeLine (answers (filing (s .sweep) c b)) }
-sweepWritten s RestMissed = accepts (withSweep s (missedFrom sweptChannels firstSwept (s .sweep)))
-sweepWritten s Next = only s (nextLine (nextTold (s .sweep)))
-sweepWritten s Counts = only s (countsLine (countsTold (s .sweep)))
-sweepWritten s (SetOutcome c b) = accepts (withOutcomes s (set (s .outcomes) c b))
-sweepWritten s (Choose m) = only s (choiceLine (choosing (s .sweep) m (s .outcomes)))
+-- a result filed in the sweep
+unfoldable pub sweepFiled : ℕ → Burst → State → Written
+sweepFiled c b s = record { state = withSweep s (leaves (s .sweep) (filing (s .sweep) c b)); text = outcomeLine (answers (filing (s .sweep) c b)) }
 
--- `start`, `list`, `move`, `file`, `ask`, `verdict`
-unfoldable pub watchWritten : State → rules.Call → Written
-watchWritten s k = record { state = withWatch s (called (s .watch) k .watch); text = watchLine (called (s .watch) k .answer) }
+-- the outcome byte of a channel
+unfoldable pub outcomeSet : ℕ → ℕ → State → Written
+outcomeSet c b s = accepts (withOutcomes s (set (s .outcomes) c b))
 
--- `params`, `power start`, `step`: a start and a step use the parameters that are set
-unfoldable pub powerWritten : State → PowerCall → Written
-powerWritten s (SetParameters p) = accepts (withParameters s p)
-powerWritten s Start = record { state = withPower s (started (s .parameters) .power); text = outcomeLine (started (s .parameters) .answer) }
-powerWritten s (Step d sqi) =
+-- the choice over the sweep and the outcome bytes
+unfoldable pub chosen : ℤ → State → Written
+chosen m s = only s (choiceLine (choosing (s .sweep) m (s .outcomes)))
+
+-- what a call on the watch hands back
+unfoldable pub handedOver : State → Called → Written
+handedOver s h = record { state = withWatch s (h .watch); text = watchLine (h .answer) }
+
+abbrev pub watching : Call → State → Written
+watching k s = handedOver s (called (s .watch) k)
+
+-- a start and a step of the power record use the parameters that are set
+unfoldable pub powerStarted : State → Written
+powerStarted s = record { state = withPower s (started (s .parameters) .power); text = outcomeLine (started (s .parameters) .answer) }
+
+unfoldable pub powerStepped : Decoded → ℤ → State → Written
+powerStepped d sqi s =
     record {
       state = withPower s (stepped (s .parameters) (s .power) d sqi .power);
       text = powerLine (stepped (s .parameters) (s .power) d sqi .answer);
     }
 
--- what the n-th line asks for; where it is none of the calls, no call is made
-unfoldable pub askedWritten : ℕ → State → Asked → Written
-askedWritten n s (reading k) = only s (readingLine k)
-askedWritten n s (sweep k) = sweepWritten s k
-askedWritten n s (watch k) = watchWritten s k
-askedWritten n s (power k) = powerWritten s k
-askedWritten n s malformed = only s (errorLine n)
+-- a line that is none of the calls, by its number in the file: no call is made
+abbrev pub malformed : ℕ → State → Written
+malformed n s = only s (errorLine n)

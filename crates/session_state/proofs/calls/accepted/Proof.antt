@@ -4,14 +4,9 @@ use Rattle.session_state.specs.Calls.{only}
 use borrow.Author.Needs.{needs}
 use Rattle.session_state.proofs.calls.accepted.Statement.{statement}
 use Rattle.session_state.proofs.calls.accepted.Tie as tie
-use Rattle.session_state.proofs.calls.accepted.Reads as reads
-use Rattle.session_state.proofs.calls.accepted.Lts as lts
-
-of-outcome-requires : tie.Need-of-outcome-requires
-of-outcome-requires c κs = search needs
 
 returns : tie.Need-returns
 returns c = ap (only (c .before .args .state)) (c .of-outcome .ensures)
 
 pub accepted-spec : {M : Type 1} → statement M
-accepted-spec = tie.close (tie.spec of-outcome-requires returns)
+accepted-spec = tie.close (tie.spec (λ c κs. search needs) returns)

@@ -11,8 +11,6 @@ use Rattle.sweep_rules.specs.Record.{firstSwept, lastSwept, sweptChannels}
 use Rattle.session_state.specs.Calls.{missedFrom}
 use Rattle.session_state.proofs.calls.rest_missed.Statement.{statement}
 use Rattle.session_state.proofs.calls.rest_missed.Tie as tie
-use Rattle.session_state.proofs.calls.rest_missed.Reads as reads
-use Rattle.session_state.proofs.calls.rest_missed.Lts as lts
 
 missed-none : (c : ℕ) (s : Sweep) → missedFrom 0 c s ≡ s
 unfolding missedFrom
@@ -30,12 +28,6 @@ abbrev μ-loop : tie.MeasureT-loop
 
 loop-holds : tie.Need-loop-holds Inv-loop μ-loop
 loop-holds c = (omega arith, omega arith, refl)
-
-file-requires : tie.Need-file-requires Inv-loop μ-loop
-file-requires c κs = search needs
-
-add-c : tie.Need-add-c Inv-loop μ-loop
-add-c c = search needs
 
 loop-less : tie.Need-loop-less Inv-loop μ-loop
 loop-less c = omega (arith, c .before .before .loop-test .taken)
@@ -62,4 +54,4 @@ returns c =
 pub rest-missed-spec : {M : Type 1} → statement M
 rest-missed-spec =
     tie.close
-    (tie.spec Inv-loop μ-loop loop-holds file-requires add-c loop-less loop-again returns)
+    (tie.spec Inv-loop μ-loop loop-holds (λ c κs. search needs) (λ c. search needs) loop-less loop-again returns)

@@ -1,21 +1,13 @@
 -- `session_state::calls::start_power` meets its contract: the record that the start hands back, and its answer.
 use mathlib.Core.Path.{ap, _∙_}
 use Rattle.session_answers.specs.Lines.{outcomeLine}
-use Rattle.session_state.specs.Calls.{withPower, powerWritten}
+use Rattle.session_state.specs.Calls.{withPower, powerStarted}
 use borrow.Author.Needs.{needs}
 use Rattle.session_state.proofs.calls.start_power.Statement.{statement}
 use Rattle.session_state.proofs.calls.start_power.Tie as tie
-use Rattle.session_state.proofs.calls.start_power.Reads as reads
-use Rattle.session_state.proofs.calls.start_power.Lts as lts
-
-start-requires : tie.Need-start-requires
-start-requires c κs = search needs
-
-of-outcome-requires : tie.Need-of-outcome-requires
-of-outcome-requires c κs = search needs
 
 returns : tie.Need-returns
-unfolding powerWritten
+unfolding powerStarted
 returns c i =
     record {
       state = withPower (c .before .before .before .before .args .state) (c .before .before .start .ensures .0 i);
@@ -23,4 +15,4 @@ returns c i =
     }
 
 pub start-power-spec : {M : Type 1} → statement M
-start-power-spec = tie.close (tie.spec start-requires of-outcome-requires returns)
+start-power-spec = tie.close (tie.spec (λ c κs. search needs) (λ c κs. search needs) returns)

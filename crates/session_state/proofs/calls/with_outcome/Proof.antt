@@ -7,8 +7,6 @@ use Rattle.sweep_rules.specs.Map.{channels}
 use borrow.Author.Needs.{needs}
 use Rattle.session_state.proofs.calls.with_outcome.Statement.{statement}
 use Rattle.session_state.proofs.calls.with_outcome.Tie as tie
-use Rattle.session_state.proofs.calls.with_outcome.Reads as reads
-use Rattle.session_state.proofs.calls.with_outcome.Lts as lts
 
 returns : tie.Need-returns
 returns c =
@@ -16,11 +14,5 @@ returns c =
     let n : length (a .outcomes) ≡ channels = search needs in
     sym (set-out (a .outcomes) (a .channel) (a .outcome) (omega (arith, n, c .if1 .taken)))
 
-array-write-bytes : tie.Need-array-write-bytes
-array-write-bytes c = search needs
-
-returns-2 : tie.Need-returns-2
-returns-2 c = search needs
-
 pub with-outcome-spec : {M : Type 1} → statement M
-with-outcome-spec = tie.close (tie.spec returns array-write-bytes returns-2)
+with-outcome-spec = tie.close (tie.spec returns (λ c. search needs) (λ c. search needs))

@@ -7,14 +7,6 @@ use Rattle.session_state.specs.State.{begins}
 use borrow.Author.Needs.{needs}
 use Rattle.session_state.proofs.state.start.Statement.{statement}
 use Rattle.session_state.proofs.state.start.Tie as tie
-use Rattle.session_state.proofs.state.start.Reads as reads
-use Rattle.session_state.proofs.state.start.Lts as lts
-
-fresh-requires : tie.Need-fresh-requires
-fresh-requires c κs = search needs
-
-fresh-requires-2 : tie.Need-fresh-requires-2
-fresh-requires-2 c κs = search needs
 
 returns : tie.Need-returns
 unfolding begins
@@ -28,4 +20,4 @@ returns c i =
     }
 
 pub start-spec : {M : Type 1} → statement M
-start-spec = tie.close (tie.spec fresh-requires fresh-requires-2 returns)
+start-spec = tie.close (tie.spec (λ c κs. search needs) (λ c κs. search needs) returns)
