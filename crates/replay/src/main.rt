@@ -16,9 +16,9 @@ fn replay_block(session: Session, block: &[u8]) -> Turn {
     let mut s = session;
     let mut at = 0;
     while at < block.len() {
-        let filled = session::answer_block(s, &block[at..], &mut out);
-        s = filled.session;
-        let n = filled.written;
+        let progress = session::answer_block(s, &block[at..], &mut out);
+        s = progress.session;
+        let n = progress.written;
         if !io::write_all(STDOUT_FILENO, &out[..n]) {
             os::fail(b"standard output");
             return Turn {
@@ -26,7 +26,7 @@ fn replay_block(session: Session, block: &[u8]) -> Turn {
                 more: false,
             };
         }
-        at += filled.taken;
+        at += progress.taken;
     }
     Turn {
         session: s,
@@ -38,7 +38,7 @@ fn replay_block(session: Session, block: &[u8]) -> Turn {
 fn replay_last(session: Session) {
     let mut out = io::buffer();
     let last = session::finish(session);
-    let n = session_file::put(&mut out, 0, last);
+    let n = session_lines::put(&mut out, 0, last);
     if !io::write_all(STDOUT_FILENO, &out[..n]) {
         os::fail(b"standard output");
     }

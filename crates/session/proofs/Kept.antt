@@ -10,8 +10,9 @@ use lib.Seq.{take-all, take-at, length-take-le}
 use lib.Dec.{eqb, leb}
 use borrow.Author.Tests.{leb-true, leb-false, lt-ltb}
 use Rattle.session_words.proofs.Lists.{take-again, cond-true}
-use Rattle.session_file.specs.Lines.{newline, longest, passedOver, linesAfter, Kept, keptOf, kept, withMore}
-use Rattle.session_file.specs.declared.lines.Line.{Line}
+use Rattle.session_words.specs.Bytes.{newline}
+use Rattle.session_lines.specs.Lines.{longest, passedOver, linesAfter, Kept, keptOf, kept, withMore}
+use Rattle.session_lines.specs.declared.lines.Line.{Line}
 use Rattle.session_state.specs.declared.state.State.{State}
 use Rattle.session_answers.specs.Lines.{errorLine}
 use Rattle.session_state.specs.Calls.{only}
@@ -86,7 +87,8 @@ answers-kept n st (a ∷ s) [] [] h = let z : min (suc (length s)) (suc longest)
 answers-kept n st (a ∷ s) (b ∷ t) [] h = ap (λ w. w .text ++ []) (line-kept n st (a ∷ s) (b ∷ t) h)
 answers-kept n st s t (b ∷ bs) h =
     ap (answersFrom n st) (lines-byte s b bs)
-    ∙ byte (eqb b newline) (answers-kept n st (s ++ (b ∷ [])) (t ++ (b ∷ [])) bs (kept-more s (b ∷ []) ∙ ap (λ k. withMore k (b ∷ [])) h ∙ sym (kept-more t (b ∷ []))))
+    ∙ byte (eqb b newline) (answers-kept n st (s ++ (b ∷ [])) (t ++ (b ∷ [])) bs (kept-more s (b ∷ []) ∙ ap (λ k. withMore k (b ∷ [])) h
+    ∙ sym (kept-more t (b ∷ []))))
     ∙ sym (ap (answersFrom n st) (lines-byte t b bs))
   where
     byte : (x : Bool) → answersFrom n st (linesAfter (s ++ (b ∷ [])) bs) ≡ answersFrom n st (linesAfter (t ++ (b ∷ [])) bs)

@@ -2,5 +2,5 @@
 mod Cutting
 mod Kept
 mod Steps
-mod Lines
+mod Ended
 mod Filling

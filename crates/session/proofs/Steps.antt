@@ -4,18 +4,17 @@ use mathlib.Core.Path.{_≡_, refl, sym, ap, ap₂, _∙_}
 use mathlib.Core.List.{List, [], _∷_, _++_, append-nil}
 use native.Mathlib.Omega.{arith}
 use lib.ListN.{length, take, drop, drop-of-length-le}
-use borrow.Author.Tests.{lt-ltb, le-ltb}
 use mir.Syntax.{w64}
 use mir.Val.{Fits}
-use Rattle.session_words.proofs.Lists.{cond-true, cond-false}
-use Rattle.session_words.specs.Bytes.{placeOf}
-use Rattle.session_file.specs.Lines.{newline, longest, linesAfter, keptOf, kept, withMore}
-use Rattle.session_file.specs.declared.lines.Line.{Line}
+use Rattle.bytes.specs.Bytes.{indexOf}
+use Rattle.session_words.specs.Bytes.{newline}
+use Rattle.session_lines.specs.Lines.{longest, linesAfter, keptOf, kept, withMore}
+use Rattle.session_lines.specs.declared.lines.Line.{Line}
 use Rattle.session_state.specs.declared.state.State.{State}
-use Rattle.session.specs.declared.reading.Session.{Session}
+use Rattle.session.specs.declared.blocks.Session.{Session}
 use Rattle.session_state.specs.State.{begins}
 use Rattle.session.specs.File.{lineWritten, following, answersFrom, answersOf}
-use Rattle.session.specs.Reading.{soFar, writes, toWrite, Unread, GoesOn}
+use Rattle.session.specs.Reading.{soFar, toWrite, Unread, GoesOn}
 use Rattle.session.proofs.Cutting.{lines-on, lines-end}
 use Rattle.session.proofs.Kept.{kept-so-far, kept-more, line-kept, answers-kept}
 
@@ -45,13 +44,9 @@ unfolding answersOf
 unread s h e n b bs = blank-writes s bs h e ∙ ap₂ (λ x y. answersFrom x y (linesAfter [] bs)) n b
 
 -- no newline
-pub on-writes : (s : Session) (bs : List ℕ) → length bs ≤ placeOf newline bs → [] ≡ writes s bs
-unfolding writes
-on-writes s bs h = sym (cond-false _ _ (le-ltb _ _ h))
-
 pub goes-on : (s t : Session) (bs text : List ℕ) (k : ℕ) → text ≡ [] → length (s .line .bytes) ≡ longest → length (t .line .bytes) ≡ longest
     → kept (t .line) ≡ withMore (kept (s .line)) bs → t .state ≡ s .state → t .number ≡ s .number
-    → length bs ≤ placeOf newline bs → length bs ≤ k → GoesOn s bs text t (drop k bs)
+    → length bs ≤ indexOf newline bs → length bs ≤ k → GoesOn s bs text t (drop k bs)
 unfolding toWrite
 goes-on s t bs text k w h j e a n p q more =
     ap (answersFrom (s .number) (s .state)) (lines-on (soFar (s .line)) bs more p)
@@ -61,30 +56,22 @@ goes-on s t bs text k w h j e a n p q more =
     ∙ ap (λ x. x ++ answersFrom (t .number) (t .state) (linesAfter (soFar (t .line)) (drop k bs ++ more))) (sym w)
 
 -- a newline: the line m is answered
-pub end-writes : (s : Session) (m : Line) (bs : List ℕ) → length (s .line .bytes) ≡ longest → length (m .bytes) ≡ longest
-    → kept m ≡ withMore (kept (s .line)) (take (placeOf newline bs) bs) → placeOf newline bs < length bs
-    → lineWritten (s .number) (s .state) (soFar m) .text ≡ writes s bs
-unfolding writes
-end-writes s m bs h j e p =
-    ap (λ w. w .text) (line-kept (s .number) (s .state) (soFar m) (soFar (s .line) ++ take (placeOf newline bs) bs) (more-kept (s .line) m _ h j e))
-    ∙ sym (cond-true _ _ (lt-ltb _ _ p))
-
-pub ends : (s t : Session) (m : Line) (bs text : List ℕ) (k : ℕ) → text ≡ lineWritten (s .number) (s .state) (soFar m) .text → k ≡ suc (placeOf newline bs)
+pub ends : (s t : Session) (m : Line) (bs text : List ℕ) (k : ℕ) → text ≡ lineWritten (s .number) (s .state) (soFar m) .text → k ≡ suc (indexOf newline bs)
     → length (s .line .bytes) ≡ longest → length (m .bytes) ≡ longest → length (t .line .bytes) ≡ longest
-    → kept m ≡ withMore (kept (s .line)) (take (placeOf newline bs) bs) → kept (t .line) ≡ keptOf []
+    → kept m ≡ withMore (kept (s .line)) (take (indexOf newline bs) bs) → kept (t .line) ≡ keptOf []
     → t .state ≡ lineWritten (s .number) (s .state) (soFar m) .state → t .number ≡ following (s .number)
-    → placeOf newline bs < length bs → GoesOn s bs text t (drop k bs)
+    → indexOf newline bs < length bs → GoesOn s bs text t (drop k bs)
 unfolding answersFrom toWrite
 ends s t m bs text k w q h j l e b a n p more =
     ap (answersFrom (s .number) (s .state)) (lines-end (soFar (s .line)) bs more p)
     ∙ ap (λ w. w .text ++ answersFrom (following (s .number)) (w .state) (linesAfter [] left))
-    (line-kept (s .number) (s .state) (soFar (s .line) ++ take (placeOf newline bs) bs) (soFar m) (sym (more-kept (s .line) m _ h j e)))
+    (line-kept (s .number) (s .state) (soFar (s .line) ++ take (indexOf newline bs) bs) (soFar m) (sym (more-kept (s .line) m _ h j e)))
     ∙ ap (λ x. lineWritten (s .number) (s .state) (soFar m) .text ++ x)
     (ap₂ (λ x y. answersFrom x y (linesAfter [] left)) (sym n) (sym a) ∙ sym (blank-writes t left l b))
     ∙ ap₂ (λ x y. x ++ toWrite t (drop y bs ++ more)) (sym w) (sym q)
   where
     left : List ℕ
-    left = drop (suc (placeOf newline bs)) bs ++ more
+    left = drop (suc (indexOf newline bs)) bs ++ more
 
 -- the end of the file ends the line that has begun, if there is one; an empty line writes nothing
 last-line : (n : ℕ) (st : State) (l : List ℕ) → lineWritten n st l .text ≡ answersFrom n st (linesAfter l [])

@@ -2,19 +2,18 @@
 use Prim.Native.Nat.{ℕ, suc, _-_, _^_, min}
 use mathlib.Core.Bool.{cond}
 use mathlib.Core.List.{List, [], _∷_, _++_}
-use Rattle.session_file.specs.Lines.{passedOver, tooLong, linesOf}
-use Rattle.session_calls.specs.Table.{askedOf}
-use Rattle.session_answers.specs.Lines.{errorLine}
+use Rattle.session_lines.specs.Lines.{passedOver, tooLong, linesOf}
 use Rattle.session_state.specs.declared.state.State.{State}
 use Rattle.session_state.specs.State.{begins}
-use Rattle.session_state.specs.Calls.{Written, only, askedWritten}
+use Rattle.session_state.specs.Calls.{Written, only, malformed}
+use Rattle.session_state.specs.Table.{lineAsked}
 
 -- the n-th line of a file: an empty line and a comment write nothing, which is looked at first; one that is too long is none of the calls
 unfoldable pub lineWritten : ℕ → State → List ℕ → Written
 lineWritten n s l =
     cond (passedOver l) (only s [])
-    (cond (tooLong l) (only s (errorLine n))
-    (askedWritten n s (askedOf l)))
+    (cond (tooLong l) (malformed n s)
+    (lineAsked n s l))
 
 -- the number of the next line: "N counts every line of the file from 1". It has 64 bits, and the greatest stays
 unfoldable pub following : ℕ → ℕ

@@ -1,31 +1,31 @@
 -- A session file that is read in blocks: what a block writes, and what is still to be written.
-use Prim.Native.Nat.{ℕ, suc, _≤_, _<_, min}
+use Prim.Native.Nat.{ℕ, suc, _≤_, _<_}
 use mathlib.Core.Path.{_≡_}
 use mathlib.Core.Bool.{cond}
 use mathlib.Core.List.{List, [], _∷_, _++_}
 use lib.ListN.{length, take}
 use lib.Dec.{leb, ltb}
-use Rattle.session_words.specs.Bytes.{placeOf}
-use Rattle.session_file.specs.Lines.{newline, longest, linesAfter}
-use Rattle.session_file.specs.Text.{room}
-use Rattle.session_file.specs.declared.lines.Line.{Line}
-use Rattle.session.specs.declared.reading.Session.{Session}
-use Rattle.session.specs.File.{lineWritten, answersFrom, answersOf}
+use Rattle.session_words.specs.Words.{wordsOf}
+use Rattle.session_lines.specs.Lines.{longest, passedOver, linesAfter}
+use Rattle.session_lines.specs.Text.{room}
+use Rattle.session_lines.specs.declared.lines.Line.{Line}
+use Rattle.session_state.specs.declared.state.State.{State}
+use Rattle.session_state.specs.Calls.{Written, only}
+use Rattle.session_state.specs.Table.{rows, rowOf, rowWritten}
+use Rattle.session.specs.declared.blocks.Session.{Session}
+use Rattle.session.specs.File.{answersFrom, answersOf}
 
 -- the bytes of the line that has begun. Of one that is too long to be a call its first bytes are kept, and one byte stands for all others
 unfoldable pub soFar : Line → List ℕ
 soFar l = cond (leb (l .length) longest) (take (l .length) (l .bytes)) (l .bytes ++ (0 ∷ []))
 
--- what these bytes write, up to the end of a line: nothing where no line ends in them
-unfoldable pub writes : Session → List ℕ → List ℕ
-writes s bs =
-    cond (ltb (placeOf newline bs) (length bs))
-    (lineWritten (s .number) (s .state) (soFar (s .line) ++ take (placeOf newline bs) bs) .text)
-    []
+-- the row of a line, by its length and its first bytes: the number of rows for one that is no call, and one more where it is passed over
+unfoldable pub rowHeld : ℕ → List ℕ → ℕ
+rowHeld size held = cond (passedOver held) (suc rows) (cond (ltb longest size) rows (rowOf (wordsOf held)))
 
--- how many of these bytes that is: those of the line with its newline, or all
-abbrev pub reads : List ℕ → ℕ
-reads bs = min (suc (placeOf newline bs)) (length bs)
+-- what a line does by its row, and writes
+unfoldable pub heldWritten : ℕ → ℕ → State → List ℕ → Written
+heldWritten k n s held = cond (ltb rows k) (only s []) (rowWritten k n s (wordsOf held))
 
 -- what is still to be written, where these bytes follow up to the end of the file
 unfoldable pub toWrite : Session → List ℕ → List ℕ

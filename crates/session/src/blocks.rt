@@ -1,21 +1,56 @@
-// A block of a session file: as many of its lines are answered as find room in a lent buffer.
+// The bytes of a session file, taken in blocks of any size: each line that ends is answered, and the answers go into a lent buffer.
 ghost use mathlib.Core.Path.{_≡_};
+ghost use mathlib.Core.List.{[]};
 ghost use Prim.Native.Nat.{_≤_};
 ghost use lib.ListN.{length, take, drop};
-ghost use Rattle.session.specs.Reading.{GoesOn, Moves};
-use crate::reading::Session;
-use crate::reading::read_on;
-use session_file::ROOM;
+ghost use Rattle.session_lines.specs.Text.{said};
+ghost use Rattle.session.specs.Reading.{toWrite, Unread, GoesOn, Moves};
+use crate::lines::answer;
+use crate::lines::next_number;
+use crate::lines::row_of;
+use bytes::scan::find;
+use session_answers::of_watch;
+use session_lines::LONGEST;
+use session_lines::Line;
+use session_lines::ROOM;
+use session_lines::Text;
+use session_lines::blank;
+use session_lines::put;
+use session_lines::with_more;
+use session_state::State;
+use session_state::WATCH_ROWS;
+use session_state::watch_row;
+use session_words::NEWLINE;
+use session_words::least;
+
+// A session file as far as it was read: the state, the line that has begun, and that line's number, from 1.
+pub struct Session {
+    pub state: State,
+    pub line: Line,
+    pub number: u64,
+}
 
 // A session after some bytes of a block: how many of these were taken, and how many bytes of the buffer are answers.
-pub struct Filled {
+pub struct Progress {
     pub session: Session,
     pub taken: usize,
     pub written: usize,
 }
 
-// Answers lines of a block until it ends or the buffer has no room for one more answer.
-pub fn answer_block(session: Session, block: &[u8], out: &mut [u8]) -> Filled
+// A session of which nothing was read.
+pub fn begin() -> Session
+    ensures { λ r. ⌜ Unread r ⌝ }
+{
+    Session {
+        state: session_state::start(),
+        line: blank(),
+        number: 1,
+    }
+}
+
+// Answers lines of a block until it ends or the buffer has no room for one more answer. Of the state only the record is written back that a
+// call on the watch changed, since these are the most.
+pub fn answer_block(session: Session, block: &[u8], out: &mut [u8]) -> Progress
     ensures rest { λ r. ⌜ GoesOn session (now (block .entry)) (take (r .written) (now (out .exit))) (r .session) (drop (r .taken) (now (block .entry))) ⌝ }
     ensures beyond { λ r. ⌜ drop (r .written) (now (out .exit)) ≡ drop (r .written) (now (out .entry)) ⌝ }
     ensures written { λ r. ⌜ r .written ≤ length (now (out .exit)) ⌝ }
@@ -23,19 +58,61 @@ pub fn answer_block(session: Session, block: &[u8], out: &mut [u8]) -> Filled
     ensures moves { λ r. ⌜ Moves (now (block .entry)) (now (out .entry)) (r .taken) ⌝ }
     ensures length { λ r. ⌜ length (now (out .exit)) ≡ length (now (out .entry)) ⌝ }
 {
-    let mut s = session;
+    let mut state = session.state;
+    let mut line = session.line;
+    let mut number = session.number;
     let mut at = 0;
     let mut used = 0;
     while (at < block.len()) & (ROOM <= out.len() - used) {
-        let p = read_on(s, &block[at..]);
-        let text = p.text;
-        s = p.session;
-        at += p.taken;
-        used = session_file::put(out, used, text);
+        let end = find(block, at, block.len(), NEWLINE);
+        line = with_more(line, &block[at..end]);
+        if end == block.len() {
+            at = end;
+            continue;
+        }
+        let bytes = line.bytes;
+        let length = least(line.length, LONGEST);
+        let held = &bytes[..length];
+        let row = row_of(line.length, held);
+        let this = number;
+        line = blank();
+        number = next_number(this);
+        at = end + 1;
+        if row < WATCH_ROWS {
+            let before = state.watch;
+            let handed = watch_row(before, row, held);
+            let after = handed.watch;
+            state.watch = after;
+            let told = handed.answer;
+            used = put(out, used, of_watch(told));
+        } else {
+            let a = answer(state, this, row, held);
+            state = a.state;
+            let text = a.text;
+            used = put(out, used, text);
+        }
     }
-    Filled {
-        session: s,
+    Progress {
+        session: Session {
+            state,
+            line,
+            number,
+        },
         taken: at,
         written: used,
     }
+}
+
+// The end of the file: what a last line writes that lacks its newline.
+pub fn finish(session: Session) -> Text
+    ensures { λ r. ⌜ said r ≡ toWrite session [] ⌝ }
+{
+    let state = session.state;
+    let line = session.line;
+    let bytes = line.bytes;
+    let length = least(line.length, LONGEST);
+    let held = &bytes[..length];
+    let row = row_of(line.length, held);
+    let last = answer(state, session.number, row, held);
+    last.text
 }

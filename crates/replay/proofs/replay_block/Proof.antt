@@ -10,8 +10,6 @@ use Rattle.session_words.proofs.Lists.{rest-is}
 use borrow.Author.Needs.{needs}
 use Rattle.replay.proofs.replay_block.Statement.{statement}
 use Rattle.replay.proofs.replay_block.Tie as tie
-use Rattle.replay.proofs.replay_block.Reads as reads
-use Rattle.replay.proofs.replay_block.Lts as lts
 
 abbrev Inv-loop : tie.InvT-loop
 Inv-loop block out₀ s₀ at₀ t8 out s at = (length out ≡ length out₀) × (at ≤ length block)
@@ -19,26 +17,11 @@ Inv-loop block out₀ s₀ at₀ t8 out s at = (length out ≡ length out₀) ×
 abbrev μ-loop : tie.MeasureT-loop
 μ-loop block out₀ s₀ at₀ t8 out s at = length block - at
 
-large-buffer-requires : tie.Need-large-buffer-requires Inv-loop μ-loop
-large-buffer-requires c κs = search needs
-
 loop-holds : tie.Need-loop-holds Inv-loop μ-loop
 loop-holds c = (refl, omega arith)
 
 sub-answer-block : tie.Need-sub-answer-block Inv-loop μ-loop
 sub-answer-block c = c .before .loop .inv .1
-
-part-answer-block-start : tie.Need-part-answer-block-start Inv-loop μ-loop
-part-answer-block-start c = search needs
-
-part-answer-block-end : tie.Need-part-answer-block-end Inv-loop μ-loop
-part-answer-block-end c = search needs
-
-slice-aggregate-answer-block : tie.Need-slice-aggregate-answer-block Inv-loop μ-loop
-slice-aggregate-answer-block c = search needs
-
-answer-block-requires : tie.Need-answer-block-requires Inv-loop μ-loop
-answer-block-requires c κs = search needs
 
 -- a block is no longer than a number of 64 bits
 block-fits : (c : tie.After-shared-slice-known Inv-loop μ-loop) → Fits w64 (length (c .before .args .block .now))
@@ -46,11 +29,13 @@ block-fits c = search needs
 
 -- what is left of the block is not empty, so some of it is taken, and no more than is left
 takes : (q : tie.After-answer-block Inv-loop μ-loop) → (0 < q .answer-block .result .taken)
-    × (q .before .before .before .before .loop .at + q .answer-block .result .taken ≤ length (q .before .before .before .before .before .before .before .args .block .now))
+    × (q .before .before .before .before .loop .at + q .answer-block .result .taken ≤ length
+    (q .before .before .before .before .before .before .before .args .block .now))
 takes q =
     let block = q .before .before .before .before .before .before .before .args .block .now in
     let loop = q .before .before .before .before .loop in
-    let n : length (take (length block - loop .at) (drop (loop .at) block)) ≡ length block - loop .at = ap length (rest-is block (loop .at)) ∙ length-drop (loop .at) block in
+    let n : length (take (length block - loop .at) (drop (loop .at) block)) ≡ length block - loop .at = ap length (rest-is block (loop .at))
+    ∙ length-drop (loop .at) block in
     let test = q .before .before .before .loop-test .taken in
     let e = q .answer-block .ensures .1 .1 .1 in
     (e .1 .0 (omega (arith, n, test)) (omega (arith, loop .inv .0)), omega (arith, n, test, e .0))
@@ -61,50 +46,42 @@ array-share-prefix-out c = c .before .before .answer-block .ensures .1 .1 .0
 slice-aggregate-write-all : tie.Need-slice-aggregate-write-all Inv-loop μ-loop
 slice-aggregate-write-all c = sym (length-take-le _ _ (c .before .before .before .answer-block .ensures .1 .1 .0))
 
-write-all-requires : tie.Need-write-all-requires Inv-loop μ-loop
-write-all-requires c κs = search needs
-
-slice-aggregate-fail : tie.Need-slice-aggregate-fail Inv-loop μ-loop
-slice-aggregate-fail c = search needs
-
-fail-requires : tie.Need-fail-requires Inv-loop μ-loop
-fail-requires c κs = search needs
-
-returns : tie.Need-returns Inv-loop μ-loop
-returns c = search needs
-
 add-at : tie.Need-add-at Inv-loop μ-loop
-add-at c = record { fits = omega (arith, takes (c .before .before .before .before .before .before) .1, block-fits (c .before .before .before .before .before .before .before .before .before .before .before .before)) }
+add-at c =
+    record {
+      fits =
+          omega (
+            arith,
+            takes (c .before .before .before .before .before .before) .1,
+            block-fits
+                (c .before .before .before .before .before .before .before .before .before .before .before .before),
+          );
+    }
 
 loop-less : tie.Need-loop-less Inv-loop μ-loop
 loop-less c = omega (arith, takes (c .before .before .before .before .before .before) .0, takes (c .before .before .before .before .before .before) .1)
 
 loop-again : tie.Need-loop-again Inv-loop μ-loop
-loop-again c = (c .before .before .before .before .before .before .answer-block .ensures .1 .1 .1 .1 .1 ∙ c .before .before .before .before .before .before .before .before .before .before .loop .inv .0, takes (c .before .before .before .before .before .before) .1)
-
-returns-2 : tie.Need-returns-2 Inv-loop μ-loop
-returns-2 c = search needs
+loop-again c = (
+  c .before .before .before .before .before .before .answer-block .ensures .1 .1 .1 .1 .1
+      ∙ c .before .before .before .before .before .before .before .before .before .before .loop .inv .0,
+  takes
+      (c .before .before .before .before .before .before) .1,
+)
 
 pub replay-block-spec : {M : Type 1} → statement M
 replay-block-spec =
     tie.close
     (tie.spec
-    Inv-loop
-    μ-loop
-    large-buffer-requires
+    Inv-loop μ-loop
+    (λ c κs. search needs)
     loop-holds
     sub-answer-block
-    part-answer-block-start
-    part-answer-block-end
-    slice-aggregate-answer-block
-    answer-block-requires
+    (λ c. search needs) (λ c. search needs) (λ c. search needs) (λ c κs. search needs)
     array-share-prefix-out
     slice-aggregate-write-all
-    write-all-requires
-    slice-aggregate-fail
-    fail-requires
-    returns
+    (λ c κs. search needs) (λ c. search needs) (λ c κs. search needs) (λ c. search needs)
     add-at
     loop-less
     loop-again
-    returns-2)
+    (λ c. search needs))
