@@ -1,6 +1,7 @@
 // Document 01's examples and faulty inputs that are run and compared. Standard input is the table of cases, with comments that say what is called.
 // Each line is written again, and after a case what each call answers, in the words of a session file. A call on a record also says whether
 // the record that it handed back is the one that it was given.
+use bytes::scan::find;
 use libc::STDIN_FILENO;
 use libc::STDOUT_FILENO;
 use power::Decoded;
@@ -18,17 +19,16 @@ use session_answers::of_next;
 use session_answers::of_outcome;
 use session_answers::of_power;
 use session_answers::of_watch;
-use session_file::Text;
-use session_file::nothing;
-use session_file::with;
-use session_file::with_signed;
-use session_numbers::ChannelWord;
-use session_numbers::IntWord;
-use session_numbers::NumWord;
-use session_words::WORDS;
-use session_words::place_of;
+use session_lines::Text;
+use session_lines::nothing;
+use session_lines::with;
+use session_lines::with_signed;
+use session_values::LISTED;
+use session_values::channels_at;
+use session_values::int_at;
+use session_values::num_at;
+use session_words::NEWLINE;
 use session_words::same;
-use session_words::split;
 use session_words::word;
 use sweep::CHANNELS;
 use sweep::Sweep;
@@ -39,41 +39,8 @@ use watch_rules::Watch;
 ghost use Prim.Native.Nat.{_≤_};
 ghost use lib.ListN.{length};
 
-// The numbers of a case. A word that is none stands for a number that no case has.
-fn natural(word: &[u8]) -> u16 {
-    match session_numbers::channel(word) {
-        ChannelWord::Number(n) => n,
-        ChannelWord::Malformed => u16::MAX,
-    }
-}
-
-fn naturals(line: &[u8]) -> [u16; WORDS] {
-    let words = split(line);
-    let mut n = [0; WORDS];
-    let mut k = 0;
-    while k < WORDS {
-        n[k] = natural(word(line, words, k));
-        k += 1;
-    }
-    n
-}
-
-fn whole(line: &[u8], k: usize) -> i32 {
-    match session_numbers::int(word(line, split(line), k)) {
-        IntWord::Value(n) => n,
-        IntWord::Malformed => i32::MIN,
-    }
-}
-
-fn float(line: &[u8], k: usize) -> f32 {
-    match session_numbers::num(word(line, split(line), k)) {
-        NumWord::Value(x) => x,
-        NumWord::Malformed => 1_000.0,
-    }
-}
-
 fn say_first_line(text: &[u8]) {
-    let p = place_of(text, b'\n');
+    let p = find(text, 0, text.len(), NEWLINE);
     io::write_all(STDOUT_FILENO, &text[0..p]);
 }
 
@@ -174,14 +141,14 @@ fn with_bit(map: u64, channel: usize, bit: u16) -> u64 {
 }
 
 // A sweep that heard channel 100 alone; then a channel's level and its bits in the two maps are set.
-fn swept(n: [u16; WORDS], level: i32) -> Sweep {
+fn swept(n: [u16; LISTED], level: i32) -> Sweep {
     let o = sweep::file(sweep::fresh(), 100, heard(-90.0, 10.0));
     let mut s = o.sweep;
-    let c = n[1] as usize;
+    let c = n[0] as usize;
     if c < CHANNELS {
         s.levels[c] = level;
-        s.visited[c / 64] = with_bit(s.visited[c / 64], c, n[3]);
-        s.heard[c / 64] = with_bit(s.heard[c / 64], c, n[4]);
+        s.visited[c / 64] = with_bit(s.visited[c / 64], c, n[2]);
+        s.heard[c / 64] = with_bit(s.heard[c / 64], c, n[3]);
     }
     s
 }
@@ -197,11 +164,11 @@ fn finished() -> Sweep {
 }
 
 // So many outcome bytes, all 0 but those of the channels 0 and 1,087.
-fn say_outcomes_case(n: [u16; WORDS]) {
+fn say_outcomes_case(n: [u16; LISTED]) {
     let mut outcomes = [0u8; 1089];
-    outcomes[0] = (n[2] % 256) as u8;
-    outcomes[1087] = (n[3] % 256) as u8;
-    let length = n[1] as usize;
+    outcomes[0] = (n[1] % 256) as u8;
+    outcomes[1087] = (n[2] % 256) as u8;
+    let length = n[0] as usize;
     if length <= 1089 {
         say_choice(finished(), &outcomes[0..length]);
     }
@@ -271,16 +238,16 @@ fn watch_of(name: &[u8]) -> Watch {
 }
 
 // The number of tracks in use, and a track's channel, its count and one of its levels.
-fn watched(from: Watch, n: [u16; WORDS], level: i32) -> Watch {
+fn watched(from: Watch, n: [u16; LISTED], level: i32) -> Watch {
     let mut w = from;
-    w.watched = n[2] as usize;
-    let place = n[3] as usize;
-    let at = n[6] as usize;
+    w.watched = n[1] as usize;
+    let place = n[2] as usize;
+    let at = n[5] as usize;
     if place < ROOM {
         if at < CAPACITY {
             let mut t = w.tracks[place];
-            t.channel = n[4];
-            t.count = n[5] as usize;
+            t.channel = n[3];
+            t.count = n[4] as usize;
             t.levels[at] = level;
             w.tracks[place] = t;
         }
@@ -314,29 +281,29 @@ fn say_power_calls(r: PowerRecord) {
     say_beside(of_power(a), same_power(r, s.power));
 }
 
-fn say_power_case(n: [u16; WORDS]) {
+fn say_power_case(n: [u16; LISTED]) {
     say_power_calls(PowerRecord {
-        panlast: n[1] as u32,
-        parsave: n[2] as u32,
-        panbasic: n[3] as u32,
-        increase: n[4] as u32,
+        panlast: n[0] as u32,
+        parsave: n[1] as u32,
+        panbasic: n[2] as u32,
+        increase: n[3] as u32,
     });
 }
 
-// What the calls of a case answer. Its first byte says which kind it is.
+// What the calls of a case answer. Its first byte says which kind it is; n are the words after the first, as numbers.
 fn say_answers(case: &[u8]) {
     if case.len() == 0 {
         return;
     }
     let kind = case[0];
-    let n = naturals(case);
+    let n = channels_at(case);
     match kind {
-        b'f' => say_float(float(case, 1)),
-        b'h' => say_hundredths(whole(case, 1)),
+        b'f' => say_float(num_at(case, 1)),
+        b'h' => say_hundredths(int_at(case, 1)),
         b'm' => say(of_burst(Burst::Missed)),
-        b's' => say_sweep_calls(swept(n, whole(case, 2))),
+        b's' => say_sweep_calls(swept(n, int_at(case, 2))),
         b'o' => say_outcomes_case(n),
-        b'w' => say_watch_calls(watched(watch_of(word(case, split(case), 1)), n, whole(case, 7))),
+        b'w' => say_watch_calls(watched(watch_of(word(case, 1)), n, int_at(case, 7))),
         b'p' => say_power_case(n),
         _ => {}
     }
@@ -346,10 +313,10 @@ fn say_answers(case: &[u8]) {
 fn say_case(table: &[u8]) -> usize
     ensures { λ r. ⌜ r ≤ length (now (table .entry)) ⌝ }
 {
-    let p = place_of(table, b'\n');
+    let p = find(table, 0, table.len(), NEWLINE);
     let line = &table[0..p];
     io::write_all(STDOUT_FILENO, line);
-    let k = place_of(line, b'#');
+    let k = find(line, 0, line.len(), b'#');
     say_answers(&line[0..k]);
     io::write_all(STDOUT_FILENO, b"\n");
     p

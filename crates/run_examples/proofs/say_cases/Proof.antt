@@ -48,8 +48,7 @@ pub say-cases-spec : {M : Type 1} → statement M
 say-cases-spec =
     tie.close
     (tie.spec
-    Inv-loop
-    μ-loop
+    Inv-loop μ-loop
     (λ c. search needs) (λ c. search needs) (λ c. search needs) (λ c. search needs) (λ c κs. search needs)
     add-at
     (λ c. search needs)
