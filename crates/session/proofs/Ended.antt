@@ -15,10 +15,11 @@ use Rattle.session_words.proofs.Lists.{cond-true, cond-false}
 use Rattle.session_lines.specs.Lines.{hash, longest, passedOver}
 use Rattle.session_lines.specs.declared.lines.Line.{Line}
 use Rattle.session_calls.specs.Table.{rowAt}
-use Rattle.session_state.specs.declared.state.State.{State}
-use Rattle.session_state.specs.Calls.{only, malformed, watching}
-use Rattle.session_state.specs.Table.{watchRows, rows, rowOf, lineAsked}
-use Rattle.session_state.proofs.Parts.{row-most, no-call, of-line, on-watch, few-watch}
+use Rattle.session_state.specs.declared.State.{State}
+use Rattle.session_rows.specs.Calls.{only, malformed, watching}
+use Rattle.session_watch.specs.Rows.{watchRows}
+use Rattle.session_rows.specs.Table.{rows, rowOf, lineAsked}
+use Rattle.session_rows.proofs.Parts.{row-most, no-call, of-line, on-watch, few-watch}
 use Rattle.session.specs.File.{lineWritten}
 use Rattle.session.specs.Reading.{soFar, rowHeld, heldWritten}
 

@@ -13,9 +13,9 @@ use Rattle.session_words.proofs.Lists.{take-again, cond-true}
 use Rattle.session_words.specs.Bytes.{newline}
 use Rattle.session_lines.specs.Lines.{longest, passedOver, linesAfter, Kept, keptOf, kept, withMore}
 use Rattle.session_lines.specs.declared.lines.Line.{Line}
-use Rattle.session_state.specs.declared.state.State.{State}
+use Rattle.session_state.specs.declared.State.{State}
 use Rattle.session_answers.specs.Lines.{errorLine}
-use Rattle.session_state.specs.Calls.{only}
+use Rattle.session_rows.specs.Calls.{only}
 use Rattle.session.specs.File.{lineWritten, following, answersFrom}
 use Rattle.session.specs.Reading.{soFar}
 use Rattle.session.proofs.Cutting.{lines-byte}

@@ -10,7 +10,7 @@ use Rattle.bytes.specs.Bytes.{indexOf}
 use Rattle.session_words.specs.Bytes.{newline}
 use Rattle.session_lines.specs.Lines.{longest, linesAfter, keptOf, kept, withMore}
 use Rattle.session_lines.specs.declared.lines.Line.{Line}
-use Rattle.session_state.specs.declared.state.State.{State}
+use Rattle.session_state.specs.declared.State.{State}
 use Rattle.session.specs.declared.blocks.Session.{Session}
 use Rattle.session_state.specs.State.{begins}
 use Rattle.session.specs.File.{lineWritten, following, answersFrom, answersOf}

@@ -3,10 +3,10 @@ use Prim.Native.Nat.{ℕ, suc, _-_, _^_, min}
 use mathlib.Core.Bool.{cond}
 use mathlib.Core.List.{List, [], _∷_, _++_}
 use Rattle.session_lines.specs.Lines.{passedOver, tooLong, linesOf}
-use Rattle.session_state.specs.declared.state.State.{State}
+use Rattle.session_state.specs.declared.State.{State}
 use Rattle.session_state.specs.State.{begins}
-use Rattle.session_state.specs.Calls.{Written, only, malformed}
-use Rattle.session_state.specs.Table.{lineAsked}
+use Rattle.session_rows.specs.Calls.{Written, only, malformed}
+use Rattle.session_rows.specs.Table.{lineAsked}
 
 -- the n-th line of a file: an empty line and a comment write nothing, which is looked at first; one that is too long is none of the calls
 unfoldable pub lineWritten : ℕ → State → List ℕ → Written

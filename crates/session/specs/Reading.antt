@@ -9,9 +9,9 @@ use Rattle.session_words.specs.Words.{wordsOf}
 use Rattle.session_lines.specs.Lines.{longest, passedOver, linesAfter}
 use Rattle.session_lines.specs.Text.{room}
 use Rattle.session_lines.specs.declared.lines.Line.{Line}
-use Rattle.session_state.specs.declared.state.State.{State}
-use Rattle.session_state.specs.Calls.{Written, only}
-use Rattle.session_state.specs.Table.{rows, rowOf, rowWritten}
+use Rattle.session_state.specs.declared.State.{State}
+use Rattle.session_rows.specs.Calls.{Written, only}
+use Rattle.session_rows.specs.Table.{rows, rowOf, rowWritten}
 use Rattle.session.specs.declared.blocks.Session.{Session}
 use Rattle.session.specs.File.{answersFrom, answersOf}
 

@@ -18,8 +18,8 @@ use session_lines::blank;
 use session_lines::put;
 use session_lines::with_more;
 use session_state::State;
-use session_state::WATCH_ROWS;
-use session_state::watch_row;
+use session_watch::WATCH_ROWS;
+use session_watch::watch_row;
 use session_words::NEWLINE;
 use session_words::least;
 

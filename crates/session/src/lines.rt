@@ -1,14 +1,14 @@
 // A line that has ended: which row of the table it has, and what the calls that are not on the watch do.
 ghost use mathlib.Core.Path.{_≡_};
-ghost use Rattle.session_state.specs.Calls.{toldAnswered};
+ghost use Rattle.session_rows.specs.Calls.{toldAnswered};
 ghost use Rattle.session.specs.File.{following};
 ghost use Rattle.session.specs.Reading.{rowHeld, heldWritten};
 use session_lines::LONGEST;
 use session_lines::nothing;
-use session_state::Answered;
-use session_state::ROWS;
+use session_rows::Answered;
+use session_rows::ROWS;
+use session_rows::make;
 use session_state::State;
-use session_state::make;
 
 // What a comment begins with.
 const HASH: u8 = b'#';
@@ -40,7 +40,7 @@ pub fn row_of(length: usize, held: &[u8]) -> usize
     if length > LONGEST {
         return ROWS;
     }
-    session_state::row_of(held)
+    session_rows::row_of(held)
 }
 
 // What a line does by its row, and writes.

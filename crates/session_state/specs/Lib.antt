@@ -1,5 +1,2 @@
--- The state of a session (docs/session-format.md, section State), and what each call does to it and writes (section Calls).
+-- The state of a session (docs/session-format.md, section State).
 pub mod State
-pub mod Calls
-pub mod Table
-pub mod Claims

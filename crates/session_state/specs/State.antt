@@ -6,7 +6,7 @@ use Rattle.sweep_rules.specs.Record.{freshSweep}
 use Rattle.choice_rules.specs.Choose.{notRead}
 use Rattle.watch_rules.specs.Record as watch
 use Rattle.power_rules.specs.PowerSteps.{allZeros}
-use Rattle.session_state.specs.declared.state.State.{State}
+use Rattle.session_state.specs.declared.State.{State}
 
 unfoldable pub begins : State
 begins =

@@ -15,10 +15,10 @@ use Rattle.session_lines.specs.Lines.{longest}
 use Rattle.session_lines.specs.Text.{room, said, fitting}
 use Rattle.session_lines.specs.declared.text.Text.{Text}
 use Rattle.session_lines.specs.declared.lines.Line.{Line}
-use Rattle.session_state.specs.declared.state.State.{State}
+use Rattle.session_state.specs.declared.State.{State}
 use Rattle.watch_rules.specs.Told.{toldHanded}
-use Rattle.session_state.specs.Calls.{Written, handedOver}
-use Rattle.session_state.specs.Table.{watchRows}
+use Rattle.session_rows.specs.Calls.{Written, handedOver}
+use Rattle.session_watch.specs.Rows.{watchRows}
 use Rattle.session.specs.declared.blocks.Session.{Session}
 use Rattle.session.specs.File.{lineWritten}
 use Rattle.session.specs.Reading.{soFar, heldWritten}

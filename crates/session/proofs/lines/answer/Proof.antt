@@ -3,9 +3,9 @@ use Prim.Native.Nat.{_≤_, _<_}
 use mathlib.Core.Path.{sym, ap, subst, _∙_}
 use borrow.Author.Tests.{lt-ltb, le-ltb}
 use Rattle.session_words.proofs.Lists.{cond-true, cond-false}
-use Rattle.session_state.specs.Calls.{only}
-use Rattle.session_state.specs.Table.{rows}
-use Rattle.session_state.proofs.Parts.{rows-are}
+use Rattle.session_rows.specs.Calls.{only}
+use Rattle.session_rows.specs.Table.{rows}
+use Rattle.session_rows.proofs.Parts.{rows-are}
 use Rattle.session.specs.Reading.{heldWritten}
 use borrow.Author.Needs.{needs}
 use Rattle.session.proofs.lines.answer.Statement.{statement}

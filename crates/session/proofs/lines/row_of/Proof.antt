@@ -4,7 +4,7 @@ use mathlib.Core.Bool.{false}
 use Prim.Native.Nat.{suc}
 use borrow.Author.Tests.{eq-eqb, ne-eqb}
 use Rattle.session_lines.specs.Lines.{passedOver}
-use Rattle.session_state.proofs.Parts.{rows-are}
+use Rattle.session_rows.proofs.Parts.{rows-are}
 use Rattle.session.proofs.Ended.{passed-empty, first-byte, row-passed, row-long, row-found}
 use borrow.Author.Needs.{needs}
 use Rattle.session.proofs.lines.row_of.Statement.{statement}

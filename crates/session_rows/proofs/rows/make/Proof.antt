@@ -1,0 +1,74 @@
+-- `session_rows::rows::make` meets its contract: the row is one of a part of the table, or comes after it.
+use Prim.Native.Nat.{_-_}
+use lib.ListN.{length}
+use mathlib.Core.Path.{_≡_, ap, _∙_}
+use mathlib.Core.List.{_++_}
+use Rattle.session_words.specs.Words.{wordsOf}
+use Rattle.session_rows.specs.Calls.{handedOver}
+use Rattle.session_watch.specs.Rows.{watchRows}
+use Rattle.session_rows.specs.Table.{sweepRows, powerRows, readingRows, rowWritten}
+use Rattle.session_rows.proofs.Parts.{at, within, after, on-watch, past-watch}
+use borrow.Author.Needs.{needs}
+use Rattle.session_rows.proofs.rows.make.Statement.{statement}
+use Rattle.session_rows.proofs.rows.make.Tie as tie
+
+returns : tie.Need-returns
+unfolding watchRows
+returns c =
+    let w = c .before in
+    let s = w .before .before .before .before in
+    let a = s .args in
+    c .handed-over .ensures ∙ ap (handedOver (a .state)) (w .watch-row .ensures)
+    ∙ on-watch (a .number) (a .state) (wordsOf (a .line .now)) (w .before .before .if1 .taken)
+
+-- a row after those on the watch
+past-1 : (c : tie.Else1) → let a = c .before .before .args in
+    at (a .number) (a .state) (wordsOf (a .line .now)) (sweepRows ++ (powerRows ++ readingRows)) (a .row - length watchRows)
+    ≡ rowWritten (a .row) (a .number) (a .state) (wordsOf (a .line .now))
+unfolding watchRows
+past-1 c = let a = c .before .before .args in past-watch (a .number) (a .state) (wordsOf (a .line .now)) (c .if1 .left)
+
+returns-2 : tie.Need-returns-2
+unfolding watchRows sweepRows
+returns-2 c =
+    let e = c .before .before in
+    let a = e .before .before .args in
+    c .sweep-row .ensures
+    ∙ within (a .number) (a .state) (wordsOf (a .line .now)) sweepRows (powerRows ++ readingRows) (c .before .if2 .taken)
+    ∙ past-1 e
+
+-- and after those on the sweep
+past-2 : (c : tie.Else2) → let a = c .before .before .before .args in
+    at (a .number) (a .state) (wordsOf (a .line .now)) (powerRows ++ readingRows) (a .row - length watchRows - length sweepRows)
+    ≡ rowWritten (a .row) (a .number) (a .state) (wordsOf (a .line .now))
+unfolding watchRows sweepRows
+past-2 c =
+    let a = c .before .before .before .args in
+    after (a .number) (a .state) (wordsOf (a .line .now)) sweepRows (powerRows ++ readingRows) (c .if2 .left) ∙ past-1 (c .before)
+
+returns-3 : tie.Need-returns-3
+unfolding watchRows sweepRows powerRows
+returns-3 c =
+    let e = c .before .before in
+    let a = e .before .before .before .args in
+    c .power-row .ensures
+    ∙ within (a .number) (a .state) (wordsOf (a .line .now)) powerRows readingRows (c .before .if3 .taken)
+    ∙ past-2 e
+
+returns-4 : tie.Need-returns-4
+unfolding watchRows sweepRows powerRows
+returns-4 c =
+    let e = c .before in
+    let a = e .before .before .before .before .args in
+    c .reading-row .ensures
+    ∙ after (a .number) (a .state) (wordsOf (a .line .now)) powerRows readingRows (e .if3 .left)
+    ∙ past-2 (e .before)
+
+pub make-spec : {M : Type 1} → statement M
+make-spec =
+    tie.close
+    (tie.spec
+    (λ c κs. search needs) (λ c κs. search needs) returns
+    (λ c κs. search needs) returns-2
+    (λ c κs. search needs) returns-3
+    (λ c κs. search needs) returns-4)

@@ -1,0 +1,79 @@
+-- `session_rows::rows::sweep_row` meets its contract: each row by its call, with the numbers of the line.
+use Prim.Native.Nat.{ℕ}
+use mathlib.Core.Path.{_≡_, ap, ap₂, _∙_}
+use mir.Syntax.{w32}
+use mir.ValLaws.{toZ-ofZ}
+use mathlib.Core.Bool.{cond}
+use Rattle.readings.specs.declared.Burst.the-variants.{Missed}
+use Rattle.readings.specs.Channels.{channelInRange}
+use Rattle.session_rows.specs.Calls.{accepts, withSweep, sweepFiled, outcomeSet, chosen, malformed}
+use Rattle.session_words.specs.Words.{wordsOf}
+use Rattle.session_state.specs.declared.State.{State}
+use Rattle.session_rows.specs.Table.{sweepRows}
+use Rattle.session_rows.proofs.Parts.{at, row-is, no-row}
+use borrow.Author.Needs.{needs, sfits-of}
+use Rattle.session_rows.proofs.rows.sweep_row.Statement.{statement}
+use Rattle.session_rows.proofs.rows.sweep_row.Tie as tie
+
+module _ (c : tie.After-sweep) where
+  abbrev state : State
+  state = c .before .before .args .state
+
+  -- the row of the number, as an arm of the match is told it
+  is : {k : ℕ} → c .before .before .args .row ≡ k → at (c .before .before .args .number) state (wordsOf (c .before .before .args .line .now)) sweepRows k
+      ≡ at (c .before .before .args .number) state (wordsOf (c .before .before .args .line .now)) sweepRows (c .before .before .args .row)
+  is e = row-is (c .before .before .args .number) state (wordsOf (c .before .before .args .line .now)) sweepRows e
+
+returns : tie.Need-returns
+unfolding sweepRows
+returns c =
+    let h = c .before in
+    let k = h .before .before in
+    c .file-in-sweep .ensures ∙ ap₂ (λ n b. sweepFiled n b (state (k .before))) (h .before .channel-at .ensures) (h .heard-at .ensures)
+    ∙ is (k .before) (k .match .keys1)
+
+returns-7 : tie.Need-returns-7
+unfolding sweepRows
+returns-7 c =
+    let b = c .before in
+    let k = b .before .before in
+    c .outcome .ensures
+    ∙ ap₂ (λ n x. cond (channelInRange n) (outcomeSet n x (state (k .before))) (malformed (k .before .before .before .args .number) (state (k .before))))
+    (b .before .channel-at3 .ensures) (b .byte-at .ensures)
+    ∙ is (k .before) (k .match .keys7)
+
+returns-8 : tie.Need-returns-8
+unfolding sweepRows
+returns-8 c =
+    let k = c .before .before in
+    let z = c .before .int-at in
+    c .choose .ensures ∙ ap (λ m. chosen m (state (k .before))) (toZ-ofZ w32 (z .result) (sfits-of (z .ok)) ∙ z .ensures) ∙ is (k .before) (k .match .keys8)
+
+pub sweep-row-spec : {M : Type 1} → statement M
+unfolding sweepRows
+sweep-row-spec =
+    tie.close
+    (tie.spec
+    (λ c κs. search needs) (λ c κs. search needs) (λ c κs. search needs)
+    (λ c κs. search needs) (λ c κs. search needs)
+    (λ c κs. search needs) (λ c κs. search needs)
+    (λ c κs. search needs) (λ c κs. search needs) (λ c κs. search needs) (λ c κs. search needs)
+    (λ c κs. search needs) (λ c κs. search needs) (λ c κs. search needs) (λ c κs. search needs) (λ c κs. search needs)
+    (λ c κs. search needs)
+    returns
+    (λ c.
+    let k = c .before .before in
+    c .file-in-sweep2 .ensures ∙ ap (λ n. sweepFiled n Missed (state (k .before))) (c .before .channel-at2 .ensures) ∙ is (k .before) (k .match .keys2))
+    (λ c. c .next .ensures ∙ is (c .before .before) (c .before .match .keys3))
+    (λ c. c .counts .ensures ∙ is (c .before .before) (c .before .match .keys4))
+    (λ c.
+    let k = c .before .before in
+    c .with-sweep .ensures ∙ ap (λ x. accepts (withSweep (state (k .before)) x)) (c .before .fresh .ensures) ∙ is (k .before) (k .match .keys5))
+    (λ c.
+    let k = c .before .before in
+    c .with-sweep2 .ensures ∙ ap (λ x. accepts (withSweep (state (k .before)) x)) (c .before .rest-missed .ensures) ∙ is (k .before) (k .match .keys6))
+    returns-7
+    returns-8
+    (λ c.
+    let a = c .before .before .before .before .args in
+    c .malformed .ensures ∙ no-row (a .number) (a .state) (wordsOf (a .line .now)) sweepRows (a .row) (c .before .match .rest)))

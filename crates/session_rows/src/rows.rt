@@ -1,0 +1,211 @@
+// The rows of the table of calls, as a text, and what each row does.
+ghost use mathlib.Core.Path.{_≡_};
+ghost use mathlib.Core.Bool.{cond};
+ghost use Rattle.power_rules.specs.declared.Decoded.the-variants.{Codes};
+ghost use Rattle.readings.specs.Channels.{channelInRange};
+ghost use Rattle.sweep_rules.specs.Next.{nextTold};
+ghost use Rattle.sweep_rules.specs.Counts.{countsTold};
+ghost use Rattle.session_words.specs.Words.{wordsOf};
+ghost use Rattle.session_calls.specs.Table.{rowAt};
+ghost use Rattle.session_answers.specs.Lines.{nextLine, countsLine};
+ghost use Rattle.session_rows.specs.Calls.{toldAnswered, only, malformed, outcomeSet};
+ghost use Rattle.session_rows.specs.Table.{sweepRows, powerRows, readingRows, parametersSet, rowOf, rowWritten};
+use crate::calls::Answered;
+use crate::calls::accepted;
+use crate::calls::choose;
+use crate::calls::file_in_sweep;
+use crate::calls::handed_over;
+use crate::calls::malformed;
+use crate::calls::only;
+use crate::calls::rest_missed;
+use crate::calls::set_outcome;
+use crate::calls::start_power;
+use crate::calls::step_power;
+use crate::calls::with_sweep;
+use power::Decoded;
+use power::PowerParameters;
+use readings::Burst;
+use readings::CHANNEL_HIGHEST;
+use session_answers::of_counts;
+use session_answers::of_float;
+use session_answers::of_hundredths;
+use session_answers::of_next;
+use session_state::State;
+use session_values::byte_at;
+use session_values::channel_at;
+use session_values::int_at;
+use session_values::num_at;
+use session_watch::WATCH_ROWS;
+use session_watch::heard_at;
+use session_watch::watch_row;
+
+// The rows in the order in which they are tried: those on the watch, of which a session has most, then those on the sweep, on the power record,
+// and of single readings.
+const TABLE: [u8; 355] = *b"\
+file CH heard NUM NUM\n\
+file CH missed\n\
+ask CH\n\
+verdict INT\n\
+start CH\n\
+list CH..\n\
+move CH\n\
+sweep file CH heard NUM NUM\n\
+sweep file CH missed\n\
+sweep next\n\
+sweep counts\n\
+sweep fresh\n\
+sweep rest missed\n\
+outcome CH BYTE\n\
+choose INT\n\
+step BYTE BYTE INT\n\
+step failed INT\n\
+power start\n\
+params BYTE BYTE BYTE BYTE BYTE BYTE BYTE\n\
+level NUM\n\
+quality NUM\n\
+show level INT\n\
+show quality INT";
+
+// The number of rows of each part after those on the watch, and of all.
+const SWEEP_ROWS: usize = 8;
+
+const POWER_ROWS: usize = 4;
+
+const READING_ROWS: usize = 4;
+
+pub const ROWS: usize = WATCH_ROWS + SWEEP_ROWS + POWER_ROWS + READING_ROWS;
+
+// The number of the row that a line has; where it has none, the number of rows.
+pub fn row_of(line: &[u8]) -> usize
+    ensures { λ r. ⌜ r ≡ rowOf (wordsOf (now (line .entry))) ⌝ }
+{
+    session_calls::row_of(&TABLE, line)
+}
+
+// The next channel of the sweep, and its counts.
+fn next(state: State) -> Answered
+    ensures { λ r. ⌜ toldAnswered r ≡ only state (nextLine (nextTold (state .sweep))) ⌝ }
+{
+    let sweep = state.sweep;
+    let next = sweep::next(sweep);
+    let answer = next.answer;
+    only(state, of_next(answer))
+}
+
+fn counts(state: State) -> Answered
+    ensures { λ r. ⌜ toldAnswered r ≡ only state (countsLine (countsTold (state .sweep))) ⌝ }
+{
+    let sweep = state.sweep;
+    let counts = sweep::counts(sweep);
+    let answer = counts.answer;
+    only(state, of_counts(answer))
+}
+
+// `outcome CH BYTE`: a channel above the last is an error.
+fn outcome(state: State, number: u64, channel: u16, byte: u8) -> Answered
+    ensures { λ r. ⌜ toldAnswered r ≡ cond (channelInRange channel) (outcomeSet channel byte state) (malformed number state) ⌝ }
+{
+    if channel <= CHANNEL_HIGHEST {
+        set_outcome(state, channel, byte)
+    } else {
+        malformed(state, number)
+    }
+}
+
+fn sweep_row(state: State, number: u64, row: usize, line: &[u8]) -> Answered
+    ensures { λ r. ⌜ toldAnswered r ≡ rowAt sweepRows malformed row (wordsOf (now (line .entry))) number state ⌝ }
+{
+    let sweep = state.sweep;
+    match row {
+        0 => file_in_sweep(state, channel_at(line, 2), heard_at(line, 4)),
+        1 => file_in_sweep(state, channel_at(line, 2), Burst::Missed),
+        2 => next(state),
+        3 => counts(state),
+        4 => with_sweep(state, sweep::fresh()),
+        5 => with_sweep(state, rest_missed(sweep)),
+        6 => outcome(state, number, channel_at(line, 1), byte_at(line, 2)),
+        7 => choose(state, int_at(line, 1)),
+        _ => malformed(state, number),
+    }
+}
+
+// Decoded codes.
+fn codes(pan: u8, par: u8) -> Decoded
+    ensures { λ r. ⌜ r ≡ Codes pan par ⌝ }
+{
+    Decoded::Codes {
+        pan: pan as u32,
+        par: par as u32,
+    }
+}
+
+// `params SQT INIT MIN MAX UP DN STEP`, each a BYTE.
+fn set_parameters(state: State, line: &[u8]) -> Answered
+    ensures { λ r. ⌜ toldAnswered r ≡ parametersSet (wordsOf (now (line .entry))) state ⌝ }
+{
+    let parameters = PowerParameters {
+        sqt: byte_at(line, 1) as u32,
+        paninit: byte_at(line, 2) as u32,
+        panmin: byte_at(line, 3) as u32,
+        panmax: byte_at(line, 4) as u32,
+        gainup: byte_at(line, 5) as u32,
+        gaindn: byte_at(line, 6) as u32,
+        mestep: byte_at(line, 7) as u32,
+    };
+    let mut next = state;
+    next.parameters = parameters;
+    accepted(next)
+}
+
+fn power_row(state: State, number: u64, row: usize, line: &[u8]) -> Answered
+    ensures { λ r. ⌜ toldAnswered r ≡ rowAt powerRows malformed row (wordsOf (now (line .entry))) number state ⌝ }
+{
+    match row {
+        0 => step_power(
+            state,
+            codes(byte_at(line, 1), byte_at(line, 2)),
+            int_at(line, 3),
+        ),
+        1 => step_power(state, Decoded::Failed, int_at(line, 2)),
+        2 => start_power(state),
+        3 => set_parameters(state, line),
+        _ => malformed(state, number),
+    }
+}
+
+fn reading_row(state: State, number: u64, row: usize, line: &[u8]) -> Answered
+    ensures { λ r. ⌜ toldAnswered r ≡ rowAt readingRows malformed row (wordsOf (now (line .entry))) number state ⌝ }
+{
+    match row {
+        0 => only(
+            state,
+            of_hundredths(readings::level_to_hundredths(num_at(line, 1))),
+        ),
+        1 => only(
+            state,
+            of_hundredths(readings::quality_to_hundredths(num_at(line, 1))),
+        ),
+        2 => only(state, of_float(readings::level_to_float(int_at(line, 2)))),
+        3 => only(state, of_float(readings::quality_to_float(int_at(line, 2)))),
+        _ => malformed(state, number),
+    }
+}
+
+// Makes the call of a row with the words of a line; the line is the one of this number in the file. Beyond the last row there is no call.
+pub fn make(state: State, number: u64, row: usize, line: &[u8]) -> Answered
+    ensures { λ r. ⌜ toldAnswered r ≡ rowWritten row number state (wordsOf (now (line .entry))) ⌝ }
+{
+    if row < WATCH_ROWS {
+        let watch = state.watch;
+        return handed_over(state, watch_row(watch, row, line));
+    }
+    let row = row - WATCH_ROWS;
+    if row < SWEEP_ROWS {
+        return sweep_row(state, number, row, line);
+    }
+    let row = row - SWEEP_ROWS;
+    if row < POWER_ROWS {
+        return power_row(state, number, row, line);
+    }
+    reading_row(state, number, row - POWER_ROWS, line)
+}

@@ -1,0 +1,24 @@
+-- Session files, section Calls and what they write: the rows on the watch, each with its text and the call that it asks for with the words of a
+-- line, by their places from 0 on.
+use Prim.Native.Nat.{ℕ, suc}
+use mathlib.Core.List.{List, [], _∷_}
+use Rattle.readings.specs.declared.Burst.{Burst}
+use Rattle.readings.specs.declared.Burst.the-variants.{Heard, Missed}
+use Rattle.watch_rules.specs.Told.{Call, start, newList, move, file, ask, verdict}
+use Rattle.session_values.specs.Values.{CH, INT, NUM, channelsOf}
+use Rattle.session_calls.specs.Table.{Row, _asks_}
+
+-- a burst that was heard: the level at a place, and the quality after it
+abbrev pub heard : List (List ℕ) → ℕ → Burst
+heard ws k = Heard (record { level = NUM ws k; quality = NUM ws (suc k) })
+
+unfoldable pub watchRows : List (Row Call)
+watchRows =
+    ("file CH heard NUM NUM" asks λ ws. file (CH ws 1) (heard ws 3))
+    ∷ ("file CH missed" asks λ ws. file (CH ws 1) Missed)
+    ∷ ("ask CH" asks λ ws. ask (CH ws 1))
+    ∷ ("verdict INT" asks λ ws. verdict (INT ws 1))
+    ∷ ("start CH" asks λ ws. start (CH ws 1))
+    ∷ ("list CH.." asks λ ws. newList (channelsOf ws))
+    ∷ ("move CH" asks λ ws. move (CH ws 1))
+    ∷ []

@@ -1,0 +1,59 @@
+// The rows of a session's table of calls that are on the watch: each makes its call through the library, with the words of a line.
+ghost use mathlib.Core.Path.{_≡_};
+ghost use lib.IntN.{pos};
+ghost use Rattle.watch_rules.specs.Told.{toldHanded, newList, verdict};
+ghost use Rattle.watch_rules.specs.Record.{called};
+ghost use Rattle.session_words.specs.Words.{wordsOf};
+ghost use Rattle.session_values.specs.Values.{channelsOf};
+ghost use Rattle.session_calls.specs.Table.{rowAt};
+ghost use Rattle.session_watch.specs.Rows.{heard, watchRows};
+use readings::Burst;
+use readings::Reading;
+use session_values::LISTED;
+use session_values::channel_at;
+use session_values::channels_at;
+use session_values::int_at;
+use session_values::num_at;
+use session_words::count;
+use session_words::least;
+use watch_rules::Handed;
+use watch_rules::Watch;
+
+// The number of rows on the watch.
+pub const WATCH_ROWS: usize = 7;
+
+// A burst that was heard: the level at a place of the line, and the quality after it. A place of 32 bits always has one after it.
+pub fn heard_at(line: &[u8], place: u32) -> Burst
+    ensures { λ r. ⌜ r ≡ heard (wordsOf (now (line .entry))) place ⌝ }
+{
+    let k = place as usize;
+    Burst::Heard(Reading {
+        level: num_at(line, k),
+        quality: num_at(line, k + 1),
+    })
+}
+
+// `list CH..`: the words after the first.
+fn new_list(watch: Watch, line: &[u8]) -> Handed
+    ensures { λ r. ⌜ toldHanded r ≡ called watch (newList (channelsOf (wordsOf (now (line .entry))))) ⌝ }
+{
+    let channels = channels_at(line);
+    let n = least(count(line) - 1, LISTED);
+    watch::new_list(watch, &channels[..n])
+}
+
+// A call on the watch, by its row. No row is beyond the last: there a verdict leaves the watch as it is.
+pub fn watch_row(watch: Watch, row: usize, line: &[u8]) -> Handed
+    ensures { λ r. ⌜ toldHanded r ≡ called watch (rowAt watchRows (verdict (pos 0)) row (wordsOf (now (line .entry)))) ⌝ }
+{
+    match row {
+        0 => watch::file(watch, channel_at(line, 1), heard_at(line, 3)),
+        1 => watch::file(watch, channel_at(line, 1), Burst::Missed),
+        2 => watch::ask(watch, channel_at(line, 1)),
+        3 => watch::verdict(watch, int_at(line, 1)),
+        4 => watch::start(watch, channel_at(line, 1)),
+        5 => new_list(watch, line),
+        6 => watch::move_to(watch, channel_at(line, 1)),
+        _ => watch::verdict(watch, 0),
+    }
+}
