@@ -1,24 +1,21 @@
 // What a call does: it is made on the state through the library, and its answer becomes a line of text.
 ghost use mathlib.Core.Path.{_≡_};
-ghost use lib.ListN.{set};
+ghost use mathlib.Core.Bool.{cond};
+ghost use Rattle.readings.specs.Channels.{channelInRange};
 ghost use Rattle.sweep_rules.specs.Record.{firstSwept, sweptChannels};
-ghost use Rattle.watch_rules.specs.Told.{toldHanded};
-ghost use Rattle.session_lines.specs.Text.{said};
-ghost use Rattle.session_rows.specs.Calls.{toldAnswered, only, accepts, withSweep, missedFrom, sweepFiled, outcomeSet, chosen, handedOver};
+ghost use Rattle.session_rows.specs.Calls.{toldAnswered, accepts, withSweep, missedFrom, sweepFiled, outcomeSet, chosen};
 ghost use Rattle.session_rows.specs.Calls.{powerStarted, powerStepped, malformed};
 use power::Decoded;
 use readings::Burst;
+use readings::CHANNEL_HIGHEST;
 use refusal::Outcome;
 use session_answers::of_choice;
 use session_answers::of_error;
 use session_answers::of_outcome;
 use session_answers::of_power;
-use session_answers::of_watch;
 use session_lines::Text;
 use session_state::State;
-use sweep::CHANNELS;
 use sweep::Sweep;
-use watch_rules::Handed;
 
 // The channels that the sweep visits.
 const FIRST_SWEPT: u16 = sweep::FIRST_SWEPT as u16;
@@ -29,30 +26,6 @@ const LAST_SWEPT: u16 = sweep::LAST_SWEPT as u16;
 pub struct Answered {
     pub state: State,
     pub text: Text,
-}
-
-pub fn only(state: State, text: Text) -> Answered
-    ensures { λ r. ⌜ toldAnswered r ≡ only state (said text) ⌝ }
-{
-    Answered { state, text }
-}
-
-pub fn accepted(state: State) -> Answered
-    ensures { λ r. ⌜ toldAnswered r ≡ accepts state ⌝ }
-{
-    Answered {
-        state,
-        text: of_outcome(Outcome::Accepted),
-    }
-}
-
-pub fn malformed(state: State, number: u64) -> Answered
-    ensures { λ r. ⌜ toldAnswered r ≡ malformed number state ⌝ }
-{
-    Answered {
-        state,
-        text: of_error(number),
-    }
 }
 
 // "Missed" filed for every channel that the sweep visits: it is refused where the channel was visited, and the record stays.
@@ -84,27 +57,24 @@ pub fn file_in_sweep(state: State, channel: u16, burst: Burst) -> Answered
     }
 }
 
-// The outcome bytes with that of a channel anew; there is none above the last channel.
-fn with_outcome(outcomes: [u8; CHANNELS], channel: u16, outcome: u8) -> [u8; CHANNELS]
-    ensures { λ r. ⌜ r ≡ set outcomes channel outcome ⌝ }
+// The outcome byte of a channel; a channel above the last is an error.
+pub fn set_outcome(state: State, number: u64, channel: u16, outcome: u8) -> Answered
+    ensures { λ r. ⌜ toldAnswered r ≡ cond (channelInRange channel) (outcomeSet channel outcome state) (malformed number state) ⌝ }
 {
-    let c = channel as usize;
-    let mut bytes = outcomes;
-    if c >= CHANNELS {
-        return bytes;
+    if channel > CHANNEL_HIGHEST {
+        return Answered {
+            state,
+            text: of_error(number),
+        };
     }
-    bytes[c] = outcome;
-    bytes
-}
-
-pub fn set_outcome(state: State, channel: u16, outcome: u8) -> Answered
-    ensures { λ r. ⌜ toldAnswered r ≡ outcomeSet channel outcome state ⌝ }
-{
-    let before = state.outcomes;
-    let after = with_outcome(before, channel, outcome);
+    let mut outcomes = state.outcomes;
+    outcomes[channel as usize] = outcome;
     let mut next = state;
-    next.outcomes = after;
-    accepted(next)
+    next.outcomes = outcomes;
+    Answered {
+        state: next,
+        text: of_outcome(Outcome::Accepted),
+    }
 }
 
 pub fn choose(state: State, margin: i32) -> Answered
@@ -125,20 +95,9 @@ pub fn with_sweep(state: State, sweep: Sweep) -> Answered
 {
     let mut next = state;
     next.sweep = sweep;
-    accepted(next)
-}
-
-// What a call on the watch hands back.
-pub fn handed_over(state: State, handed: Handed) -> Answered
-    ensures { λ r. ⌜ toldAnswered r ≡ handedOver state (toldHanded handed) ⌝ }
-{
-    let after = handed.watch;
-    let answer = handed.answer;
-    let mut next = state;
-    next.watch = after;
     Answered {
         state: next,
-        text: of_watch(answer),
+        text: of_outcome(Outcome::Accepted),
     }
 }
 

@@ -1,22 +1,15 @@
 // The rows of the table of calls, as a text, and what each row does.
 ghost use mathlib.Core.Path.{_≡_};
-ghost use mathlib.Core.Bool.{cond};
 ghost use Rattle.power_rules.specs.declared.Decoded.the-variants.{Codes};
-ghost use Rattle.readings.specs.Channels.{channelInRange};
-ghost use Rattle.sweep_rules.specs.Next.{nextTold};
-ghost use Rattle.sweep_rules.specs.Counts.{countsTold};
 ghost use Rattle.session_words.specs.Words.{wordsOf};
 ghost use Rattle.session_calls.specs.Table.{rowAt};
-ghost use Rattle.session_answers.specs.Lines.{nextLine, countsLine};
-ghost use Rattle.session_rows.specs.Calls.{toldAnswered, only, malformed, outcomeSet};
+ghost use Rattle.session_lines.specs.Text.{said};
+ghost use Rattle.session_state.specs.declared.State.{State};
+ghost use Rattle.session_rows.specs.Calls.{toldAnswered, only, malformed};
 ghost use Rattle.session_rows.specs.Table.{sweepRows, powerRows, readingRows, parametersSet, rowOf, rowWritten};
 use crate::calls::Answered;
-use crate::calls::accepted;
 use crate::calls::choose;
 use crate::calls::file_in_sweep;
-use crate::calls::handed_over;
-use crate::calls::malformed;
-use crate::calls::only;
 use crate::calls::rest_missed;
 use crate::calls::set_outcome;
 use crate::calls::start_power;
@@ -25,11 +18,15 @@ use crate::calls::with_sweep;
 use power::Decoded;
 use power::PowerParameters;
 use readings::Burst;
-use readings::CHANNEL_HIGHEST;
+use refusal::Outcome;
 use session_answers::of_counts;
+use session_answers::of_error;
 use session_answers::of_float;
 use session_answers::of_hundredths;
 use session_answers::of_next;
+use session_answers::of_outcome;
+use session_answers::of_watch;
+use session_lines::Text;
 use session_state::State;
 use session_values::byte_at;
 use session_values::channel_at;
@@ -82,36 +79,6 @@ pub fn row_of(line: &[u8]) -> usize
     session_calls::row_of(&TABLE, line)
 }
 
-// The next channel of the sweep, and its counts.
-fn next(state: State) -> Answered
-    ensures { λ r. ⌜ toldAnswered r ≡ only state (nextLine (nextTold (state .sweep))) ⌝ }
-{
-    let sweep = state.sweep;
-    let next = sweep::next(sweep);
-    let answer = next.answer;
-    only(state, of_next(answer))
-}
-
-fn counts(state: State) -> Answered
-    ensures { λ r. ⌜ toldAnswered r ≡ only state (countsLine (countsTold (state .sweep))) ⌝ }
-{
-    let sweep = state.sweep;
-    let counts = sweep::counts(sweep);
-    let answer = counts.answer;
-    only(state, of_counts(answer))
-}
-
-// `outcome CH BYTE`: a channel above the last is an error.
-fn outcome(state: State, number: u64, channel: u16, byte: u8) -> Answered
-    ensures { λ r. ⌜ toldAnswered r ≡ cond (channelInRange channel) (outcomeSet channel byte state) (malformed number state) ⌝ }
-{
-    if channel <= CHANNEL_HIGHEST {
-        set_outcome(state, channel, byte)
-    } else {
-        malformed(state, number)
-    }
-}
-
 fn sweep_row(state: State, number: u64, row: usize, line: &[u8]) -> Answered
     ensures { λ r. ⌜ toldAnswered r ≡ rowAt sweepRows malformed row (wordsOf (now (line .entry))) number state ⌝ }
 {
@@ -119,13 +86,30 @@ fn sweep_row(state: State, number: u64, row: usize, line: &[u8]) -> Answered
     match row {
         0 => file_in_sweep(state, channel_at(line, 2), heard_at(line, 4)),
         1 => file_in_sweep(state, channel_at(line, 2), Burst::Missed),
-        2 => next(state),
-        3 => counts(state),
+        2 => {
+            let next = sweep::next(sweep);
+            let answer = next.answer;
+            Answered {
+                state,
+                text: of_next(answer),
+            }
+        }
+        3 => {
+            let counts = sweep::counts(sweep);
+            let answer = counts.answer;
+            Answered {
+                state,
+                text: of_counts(answer),
+            }
+        }
         4 => with_sweep(state, sweep::fresh()),
         5 => with_sweep(state, rest_missed(sweep)),
-        6 => outcome(state, number, channel_at(line, 1), byte_at(line, 2)),
+        6 => set_outcome(state, number, channel_at(line, 1), byte_at(line, 2)),
         7 => choose(state, int_at(line, 1)),
-        _ => malformed(state, number),
+        _ => Answered {
+            state,
+            text: of_error(number),
+        },
     }
 }
 
@@ -154,7 +138,10 @@ fn set_parameters(state: State, line: &[u8]) -> Answered
     };
     let mut next = state;
     next.parameters = parameters;
-    accepted(next)
+    Answered {
+        state: next,
+        text: of_outcome(Outcome::Accepted),
+    }
 }
 
 fn power_row(state: State, number: u64, row: usize, line: &[u8]) -> Answered
@@ -169,25 +156,23 @@ fn power_row(state: State, number: u64, row: usize, line: &[u8]) -> Answered
         1 => step_power(state, Decoded::Failed, int_at(line, 2)),
         2 => start_power(state),
         3 => set_parameters(state, line),
-        _ => malformed(state, number),
+        _ => Answered {
+            state,
+            text: of_error(number),
+        },
     }
 }
 
-fn reading_row(state: State, number: u64, row: usize, line: &[u8]) -> Answered
-    ensures { λ r. ⌜ toldAnswered r ≡ rowAt readingRows malformed row (wordsOf (now (line .entry))) number state ⌝ }
+// The state stays as it is.
+fn reading_row(number: u64, row: usize, line: &[u8]) -> Text
+    ensures { λ r. ⌜ ((s : State) → only s (said r) ≡ rowAt readingRows malformed row (wordsOf (now (line .entry))) number s) ⌝ }
 {
     match row {
-        0 => only(
-            state,
-            of_hundredths(readings::level_to_hundredths(num_at(line, 1))),
-        ),
-        1 => only(
-            state,
-            of_hundredths(readings::quality_to_hundredths(num_at(line, 1))),
-        ),
-        2 => only(state, of_float(readings::level_to_float(int_at(line, 2)))),
-        3 => only(state, of_float(readings::quality_to_float(int_at(line, 2)))),
-        _ => malformed(state, number),
+        0 => of_hundredths(readings::level_to_hundredths(num_at(line, 1))),
+        1 => of_hundredths(readings::quality_to_hundredths(num_at(line, 1))),
+        2 => of_float(readings::level_to_float(int_at(line, 2))),
+        3 => of_float(readings::quality_to_float(int_at(line, 2))),
+        _ => of_error(number),
     }
 }
 
@@ -196,8 +181,16 @@ pub fn make(state: State, number: u64, row: usize, line: &[u8]) -> Answered
     ensures { λ r. ⌜ toldAnswered r ≡ rowWritten row number state (wordsOf (now (line .entry))) ⌝ }
 {
     if row < WATCH_ROWS {
-        let watch = state.watch;
-        return handed_over(state, watch_row(watch, row, line));
+        let before = state.watch;
+        let handed = watch_row(before, row, line);
+        let after = handed.watch;
+        let answer = handed.answer;
+        let mut next = state;
+        next.watch = after;
+        return Answered {
+            state: next,
+            text: of_watch(answer),
+        };
     }
     let row = row - WATCH_ROWS;
     if row < SWEEP_ROWS {
@@ -207,5 +200,8 @@ pub fn make(state: State, number: u64, row: usize, line: &[u8]) -> Answered
     if row < POWER_ROWS {
         return power_row(state, number, row, line);
     }
-    reading_row(state, number, row - POWER_ROWS, line)
+    Answered {
+        state,
+        text: reading_row(number, row - POWER_ROWS, line),
+    }
 }

@@ -4,7 +4,7 @@ use lib.ListN.{length}
 use mathlib.Core.Path.{_≡_, ap, _∙_}
 use mathlib.Core.List.{_++_}
 use Rattle.session_words.specs.Words.{wordsOf}
-use Rattle.session_rows.specs.Calls.{handedOver}
+use Rattle.session_rows.specs.Calls.{withWatch, handedOver}
 use Rattle.session_watch.specs.Rows.{watchRows}
 use Rattle.session_rows.specs.Table.{sweepRows, powerRows, readingRows, rowWritten}
 use Rattle.session_rows.proofs.Parts.{at, within, after, on-watch, past-watch}
@@ -13,12 +13,12 @@ use Rattle.session_rows.proofs.rows.make.Statement.{statement}
 use Rattle.session_rows.proofs.rows.make.Tie as tie
 
 returns : tie.Need-returns
-unfolding watchRows
+unfolding watchRows handedOver
 returns c =
-    let w = c .before in
-    let s = w .before .before .before .before in
-    let a = s .args in
-    c .handed-over .ensures ∙ ap (handedOver (a .state)) (w .watch-row .ensures)
+    let w = c .before .before in
+    let a = w .before .before .before .before .args in
+    (λ i. record { state = withWatch (a .state) (w .watch-row .result .watch); text = c .of-watch .ensures i })
+    ∙ ap (handedOver (a .state)) (w .watch-row .ensures)
     ∙ on-watch (a .number) (a .state) (wordsOf (a .line .now)) (w .before .before .if1 .taken)
 
 -- a row after those on the watch
@@ -60,7 +60,7 @@ unfolding watchRows sweepRows powerRows
 returns-4 c =
     let e = c .before in
     let a = e .before .before .before .before .args in
-    c .reading-row .ensures
+    c .reading-row .ensures (a .state)
     ∙ after (a .number) (a .state) (wordsOf (a .line .now)) powerRows readingRows (e .if3 .left)
     ∙ past-2 (e .before)
 

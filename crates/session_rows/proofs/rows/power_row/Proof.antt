@@ -4,7 +4,7 @@ use mathlib.Core.Path.{_≡_, ap, ap₂, _∙_}
 use mir.Syntax.{w32}
 use mir.ValLaws.{toZ-ofZ}
 use Rattle.power_rules.specs.declared.Decoded.the-variants.{Failed, Codes}
-use Rattle.session_rows.specs.Calls.{powerStepped}
+use Rattle.session_rows.specs.Calls.{only, powerStepped}
 use Rattle.session_words.specs.Words.{wordsOf}
 use Rattle.session_state.specs.declared.State.{State}
 use Rattle.session_rows.specs.Table.{powerRows}
@@ -55,4 +55,4 @@ power-row-spec =
     (λ c. c .set-parameters .ensures ∙ is (c .before .before) (c .before .match .keys4))
     (λ c.
     let a = c .before .before .before .args in
-    c .malformed .ensures ∙ no-row (a .number) (a .state) (wordsOf (a .line .now)) powerRows (a .row) (c .before .match .rest)))
+    ap (only (a .state)) (c .of-error .ensures) ∙ no-row (a .number) (a .state) (wordsOf (a .line .now)) powerRows (a .row) (c .before .match .rest)))

@@ -1,6 +1,5 @@
 -- `session_rows::rows::set_parameters` meets its contract: each parameter is the byte at its place.
-use mathlib.Core.Path.{_∙_}
-use Rattle.session_rows.specs.Calls.{accepts, withParameters}
+use Rattle.session_rows.specs.Calls.{withParameters}
 use Rattle.session_rows.specs.Table.{parametersSet}
 use borrow.Author.Needs.{needs}
 use Rattle.session_rows.proofs.rows.set_parameters.Statement.{statement}
@@ -8,23 +7,26 @@ use Rattle.session_rows.proofs.rows.set_parameters.Tie as tie
 
 returns : tie.Need-returns
 unfolding parametersSet
-returns c =
+returns c i =
     let b7 = c .before in
     let b6 = b7 .before in
     let b5 = b6 .before in
     let b4 = b5 .before in
     let b3 = b4 .before in
     let b2 = b3 .before in
-    c .accepted .ensures
-    ∙ (λ i. accepts (withParameters (b2 .before .before .before .args .state) (record {
-      sqt = b2 .before .byte-at .ensures i;
-      paninit = b2 .byte-at2 .ensures i;
-      panmin = b3 .byte-at3 .ensures i;
-      panmax = b4 .byte-at4 .ensures i;
-      gainup = b5 .byte-at5 .ensures i;
-      gaindn = b6 .byte-at6 .ensures i;
-      mestep = b7 .byte-at7 .ensures i;
-    })))
+    record {
+      state =
+          withParameters (b2 .before .before .before .args .state) (record {
+            sqt = b2 .before .byte-at .ensures i;
+            paninit = b2 .byte-at2 .ensures i;
+            panmin = b3 .byte-at3 .ensures i;
+            panmax = b4 .byte-at4 .ensures i;
+            gainup = b5 .byte-at5 .ensures i;
+            gaindn = b6 .byte-at6 .ensures i;
+            mestep = b7 .byte-at7 .ensures i;
+          });
+      text = c .of-outcome .ensures i;
+    }
 
 pub set-parameters-spec : {M : Type 1} → statement M
 set-parameters-spec =

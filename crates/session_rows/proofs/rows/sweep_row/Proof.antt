@@ -6,7 +6,8 @@ use mir.ValLaws.{toZ-ofZ}
 use mathlib.Core.Bool.{cond}
 use Rattle.readings.specs.declared.Burst.the-variants.{Missed}
 use Rattle.readings.specs.Channels.{channelInRange}
-use Rattle.session_rows.specs.Calls.{accepts, withSweep, sweepFiled, outcomeSet, chosen, malformed}
+use Rattle.session_answers.specs.Lines.{nextLine, countsLine}
+use Rattle.session_rows.specs.Calls.{only, accepts, withSweep, sweepFiled, outcomeSet, chosen, malformed}
 use Rattle.session_words.specs.Words.{wordsOf}
 use Rattle.session_state.specs.declared.State.{State}
 use Rattle.session_rows.specs.Table.{sweepRows}
@@ -32,12 +33,24 @@ returns c =
     c .file-in-sweep .ensures ∙ ap₂ (λ n b. sweepFiled n b (state (k .before))) (h .before .channel-at .ensures) (h .heard-at .ensures)
     ∙ is (k .before) (k .match .keys1)
 
+returns-3 : tie.Need-returns-3
+unfolding sweepRows
+returns-3 c =
+    let k = c .before .before in
+    ap (only (state (k .before))) (c .of-next .ensures ∙ ap nextLine (c .before .next .ensures .1)) ∙ is (k .before) (k .match .keys3)
+
+returns-4 : tie.Need-returns-4
+unfolding sweepRows
+returns-4 c =
+    let k = c .before .before in
+    ap (only (state (k .before))) (c .of-counts .ensures ∙ ap countsLine (c .before .counts .ensures .1)) ∙ is (k .before) (k .match .keys4)
+
 returns-7 : tie.Need-returns-7
 unfolding sweepRows
 returns-7 c =
     let b = c .before in
     let k = b .before .before in
-    c .outcome .ensures
+    c .set-outcome .ensures
     ∙ ap₂ (λ n x. cond (channelInRange n) (outcomeSet n x (state (k .before))) (malformed (k .before .before .before .args .number) (state (k .before))))
     (b .before .channel-at3 .ensures) (b .byte-at .ensures)
     ∙ is (k .before) (k .match .keys7)
@@ -54,9 +67,8 @@ unfolding sweepRows
 sweep-row-spec =
     tie.close
     (tie.spec
-    (λ c κs. search needs) (λ c κs. search needs) (λ c κs. search needs)
-    (λ c κs. search needs) (λ c κs. search needs)
-    (λ c κs. search needs) (λ c κs. search needs)
+    (λ c κs. search needs) (λ c κs. search needs) (λ c κs. search needs) (λ c κs. search needs) (λ c κs. search needs)
+    (λ c κs. search needs) (λ c κs. search needs) (λ c κs. search needs) (λ c κs. search needs)
     (λ c κs. search needs) (λ c κs. search needs) (λ c κs. search needs) (λ c κs. search needs)
     (λ c κs. search needs) (λ c κs. search needs) (λ c κs. search needs) (λ c κs. search needs) (λ c κs. search needs)
     (λ c κs. search needs)
@@ -64,8 +76,8 @@ sweep-row-spec =
     (λ c.
     let k = c .before .before in
     c .file-in-sweep2 .ensures ∙ ap (λ n. sweepFiled n Missed (state (k .before))) (c .before .channel-at2 .ensures) ∙ is (k .before) (k .match .keys2))
-    (λ c. c .next .ensures ∙ is (c .before .before) (c .before .match .keys3))
-    (λ c. c .counts .ensures ∙ is (c .before .before) (c .before .match .keys4))
+    returns-3
+    returns-4
     (λ c.
     let k = c .before .before in
     c .with-sweep .ensures ∙ ap (λ x. accepts (withSweep (state (k .before)) x)) (c .before .fresh .ensures) ∙ is (k .before) (k .match .keys5))
@@ -76,4 +88,4 @@ sweep-row-spec =
     returns-8
     (λ c.
     let a = c .before .before .before .before .args in
-    c .malformed .ensures ∙ no-row (a .number) (a .state) (wordsOf (a .line .now)) sweepRows (a .row) (c .before .match .rest)))
+    ap (only (a .state)) (c .of-error .ensures) ∙ no-row (a .number) (a .state) (wordsOf (a .line .now)) sweepRows (a .row) (c .before .match .rest)))
