@@ -8,7 +8,7 @@ use lib.Dec.{T}
 use mir.Syntax.{w32}
 use mir.Val.{SFits, toZ, ofZ}
 use mir.ValLaws.{toZ-ofZ}
-use Rattle.readings.specs.Ranges.{levelHighest, levelInRange}
+use Rattle.readings_rules.specs.Ranges.{levelHighest, levelInRange}
 use Rattle.choice_rules.specs.Code.{depth}
 use Rattle.choice_rules.proofs.Whole.{sub-nonneg}
 use Rattle.choice_rules.proofs.KeyOrder.{highest-of, depth-le}

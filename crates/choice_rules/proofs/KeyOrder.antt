@@ -13,7 +13,7 @@ use lib.IntN.{ℤ, natAbs, _-ℤ_}
 use lib.Signed.{leZ, ltZ}
 use lib.Dec.{leb, ltb}
 use borrow.Author.Tests.{ne-eqb, leb-true, le-leb, lt-ltb, ltb-true, ltb-false}
-use Rattle.readings.specs.Ranges.{levelLowest, levelHighest, levelInRange}
+use Rattle.readings_rules.specs.Ranges.{levelLowest, levelHighest, levelInRange}
 use Rattle.sweep_rules.specs.Map.{channels}
 use Rattle.sweep_rules.specs.Record.{levelAt, wellFormed}
 use Rattle.sweep_rules.specs.declared.Sweep.{Sweep}

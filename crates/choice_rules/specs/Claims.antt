@@ -12,7 +12,7 @@ use Rattle.refusal.specs.declared.Refusal.{Refusal}
 use Rattle.refusal.specs.Number.{numberOf}
 use Rattle.refusal.specs.Told.{refused, gives}
 use Rattle.refusal.specs.Claims.{OneToOne}
-use Rattle.readings.specs.Claims.{Between}
+use Rattle.readings_rules.specs.Claims.{Between}
 use Rattle.sweep_rules.specs.Record.{heard, levelAt}
 use Rattle.sweep_rules.specs.Claims.{WellFormed, Finished}
 use Rattle.sweep_rules.specs.declared.Sweep.{Sweep}

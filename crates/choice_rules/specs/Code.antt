@@ -7,7 +7,7 @@ use mathlib.Core.List.{List, [], _∷_, map}
 use lib.ListN.{length, take}
 use lib.IntN.{ℤ, natAbs, _-ℤ_}
 use lib.Dec.{eqb, leb, ltb}
-use Rattle.readings.specs.Ranges.{levelHighest}
+use Rattle.readings_rules.specs.Ranges.{levelHighest}
 use Rattle.sweep_rules.specs.Map.{channels}
 use Rattle.choice_rules.specs.Order.{beginning, sortBy}
 use Rattle.choice_rules.specs.Choose.{notRead, suitable, outcomeAt, marginHighest, Chosen, camp, read, noBeam}

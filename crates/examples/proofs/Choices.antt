@@ -7,7 +7,7 @@ use mathlib.Core.List.{List, [], _∷_}
 use lib.ListN.{getD, replicate, set}
 use lib.IntN.{ℤ, pos}
 use Rattle.refusal.specs.Told.{gives}
-use Rattle.readings.specs.Ranges.{levelInRange}
+use Rattle.readings_rules.specs.Ranges.{levelInRange}
 use Rattle.sweep_rules.specs.Map.{channels, bitAt, isSet, withBit, allBelow}
 use Rattle.sweep_rules.specs.Record.{heard, levelAt, implies, isZero, freshSweep, finished, heardWhereVisited, noBitOutside, zeroWhereNotHeard, levelsInRange, wellFormed}
 use Rattle.sweep_rules.specs.declared.Sweep.{Sweep}

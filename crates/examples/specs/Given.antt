@@ -5,8 +5,8 @@ use lib.ListN.{replicate, set}
 use lib.IntN.{ℤ, pos, negℤ}
 use lib.Ieee.{Float, binary32, ofBits}
 use Rattle.refusal.specs.Told.{Told, refused, gives}
-use Rattle.readings.specs.declared.Burst.{Burst}
-use Rattle.readings.specs.declared.Burst.the-variants.{Heard}
+use Rattle.readings_rules.specs.declared.Burst.{Burst}
+use Rattle.readings_rules.specs.declared.Burst.the-variants.{Heard}
 use Rattle.sweep_rules.specs.Map.{channels, withBit}
 use Rattle.sweep_rules.specs.Record.{freshSweep}
 use Rattle.sweep_rules.specs.declared.Sweep.{Sweep}

@@ -4,7 +4,7 @@ use mathlib.Core.Path.{_≡_}
 use mathlib.Core.List.{List, [], _∷_}
 use lib.IntN.{pos}
 use Rattle.refusal.specs.Told.{refused, gives}
-use Rattle.readings.specs.Hundredths.{levelOf, qualityOf}
+use Rattle.readings_rules.specs.Hundredths.{levelOf, qualityOf}
 use Rattle.choice_rules.specs.Choose.{camp, read, noBeam, choosing}
 use Rattle.watch_rules.specs.Told.{ask, verdict, levels, wait, stay, moveTo}
 use Rattle.power_rules.specs.declared.Decoded.the-variants.{Failed, Codes}

@@ -15,17 +15,17 @@ use Rattle.refusal.specs.Number.{numberOf}
 use Rattle.refusal.specs.Told.{Told, refused, gives, refusedFor, toldOutcome}
 use Rattle.refusal.specs.Claims.{OneToOne}
 use Rattle.refusal.proofs.OneToOne.{outcomesDiffer}
-use Rattle.readings.specs.declared.Hundredths.{Hundredths}
-use Rattle.readings.specs.declared.Hundredths.the-variants as hundredths
-use Rattle.readings.specs.declared.Shown.{Shown}
-use Rattle.readings.specs.declared.Shown.the-variants as shown
-use Rattle.readings.specs.declared.Reading.{Reading}
-use Rattle.readings.specs.declared.Burst.the-variants.{Heard}
-use Rattle.readings.specs.Hundredths.{within, hundredthsOf, whereInRange, converted}
-use Rattle.readings.specs.Ranges.{levelLow, levelHigh, qualityLow, qualityHigh}
-use Rattle.readings.specs.Burst.{heard, bothOf, burstOf}
-use Rattle.readings.specs.Told.{toldHundredths, toldShown}
-use Rattle.readings.proofs.Claims as readings
+use Rattle.readings_rules.specs.declared.Hundredths.{Hundredths}
+use Rattle.readings_rules.specs.declared.Hundredths.the-variants as hundredths
+use Rattle.readings_rules.specs.declared.Shown.{Shown}
+use Rattle.readings_rules.specs.declared.Shown.the-variants as shown
+use Rattle.readings_rules.specs.declared.Reading.{Reading}
+use Rattle.readings_rules.specs.declared.Burst.the-variants.{Heard}
+use Rattle.readings_rules.specs.Hundredths.{within, hundredthsOf, whereInRange, converted}
+use Rattle.readings_rules.specs.Ranges.{levelLow, levelHigh, qualityLow, qualityHigh}
+use Rattle.readings_rules.specs.Burst.{heard, bothOf, burstOf}
+use Rattle.readings_rules.specs.Told.{toldHundredths, toldShown}
+use Rattle.readings_rules.proofs.Claims as readings
 use Rattle.sweep_rules.specs.declared.NextChannel.{NextChannel}
 use Rattle.sweep_rules.specs.declared.NextChannel.the-variants as next
 use Rattle.sweep_rules.specs.declared.Numbers.{Numbers}

@@ -5,7 +5,7 @@ use mathlib.Core.Bool.{false}
 use lib.IntN.{ℤ, pos, natAbs}
 use lib.Ieee.{Float, fin}
 use Rattle.refusal.specs.Told.{Told, refused, gives}
-use Rattle.readings.specs.Burst.{BurstResult, heard, missed}
+use Rattle.readings_rules.specs.Burst.{BurstResult, heard, missed}
 use Rattle.sweep_rules.specs.declared.Sweep.{Sweep}
 use Rattle.sweep_rules.specs.Filing.{leaves, answers}
 use Rattle.sweep_rules.specs.Next.{Next, channel, done}

@@ -5,12 +5,12 @@ use lib.IntN.{ℤ}
 use Rattle.refusal.specs.declared.Outcome.{Outcome}
 use Rattle.refusal.specs.Told.{toldOutcome}
 use Rattle.refusal.specs.Claims.{OneToOne}
-use Rattle.readings.specs.declared.Hundredths.{Hundredths}
-use Rattle.readings.specs.declared.Shown.{Shown}
-use Rattle.readings.specs.declared.Reading.{Reading}
-use Rattle.readings.specs.declared.Burst.the-variants.{Heard}
-use Rattle.readings.specs.Burst.{burstOf}
-use Rattle.readings.specs.Told.{toldHundredths, toldShown}
+use Rattle.readings_rules.specs.declared.Hundredths.{Hundredths}
+use Rattle.readings_rules.specs.declared.Shown.{Shown}
+use Rattle.readings_rules.specs.declared.Reading.{Reading}
+use Rattle.readings_rules.specs.declared.Burst.the-variants.{Heard}
+use Rattle.readings_rules.specs.Burst.{burstOf}
+use Rattle.readings_rules.specs.Told.{toldHundredths, toldShown}
 use Rattle.sweep_rules.specs.declared.SweepOutcome.{SweepOutcome}
 use Rattle.sweep_rules.specs.declared.NextChannel.{NextChannel}
 use Rattle.sweep_rules.specs.declared.Numbers.{Numbers}

@@ -3,7 +3,7 @@
 // themselves stand in the crate `royukezan`.
 ghost use mathlib.Core.Path.{_≡_};
 ghost use Rattle.refusal.specs.Told.{toldOutcome};
-ghost use Rattle.readings.specs.Told.{toldHundredths, toldShown, toldBurst};
+ghost use Rattle.readings_rules.specs.Told.{toldHundredths, toldShown, toldBurst};
 ghost use Rattle.sweep_rules.specs.Told.{toldNext, toldNumbers};
 ghost use Rattle.choice_rules.specs.Told.{toldChoice};
 ghost use Rattle.watch_rules.specs.Told.{told, toldHanded};
@@ -14,9 +14,9 @@ use choice_rules::Choice;
 use choice_rules::SweepChoice;
 use power_rules::PowerRecord;
 use power_rules::Stepped;
-use readings::BurstHundredths;
-use readings::Hundredths;
-use readings::Shown;
+use readings_rules::BurstHundredths;
+use readings_rules::Hundredths;
+use readings_rules::Shown;
 use refusal::Outcome;
 use sweep_rules::NextChannel;
 use sweep_rules::Numbers;

@@ -3,7 +3,7 @@ use mathlib.Core.Path.{_≡_, _∙_}
 use mathlib.Core.Bool.{true, false}
 use Prim.Native.Nat.{ℕ}
 use lib.IntN.{ℤ}
-use Rattle.readings.specs.Ranges.{qualityInRange}
+use Rattle.readings_rules.specs.Ranges.{qualityInRange}
 use Rattle.power_rules.specs.Code.{aboveLowest}
 use Rattle.power_rules.proofs.Whole.{by-test}
 use Rattle.power.specs.declared.Quality.the-variants.{InRange, OutOfRange}

@@ -1,7 +1,7 @@
 -- What the private `quality_of` returns; what the others return is defined beside the rules. No reader of the public contracts needs this file.
 use mathlib.Core.Bool.{cond}
 use lib.IntN.{ℤ}
-use Rattle.readings.specs.Ranges.{qualityInRange}
+use Rattle.readings_rules.specs.Ranges.{qualityInRange}
 use Rattle.power_rules.specs.Code.{aboveLowest}
 use Rattle.power.specs.declared.Quality.{Quality}
 use Rattle.power.specs.declared.Quality.the-variants.{InRange, OutOfRange}

@@ -52,7 +52,7 @@ const MESTEP_STEP: u32 = 200;
 const THOUSANDTHS_HIGHEST: u32 = 24_000;
 
 // 0 dB, counted from the lowest quality in hundredths.
-const ZERO_QUALITY: u32 = (0 - readings::QUALITY_LOWEST) as u32;
+const ZERO_QUALITY: u32 = (0 - readings_rules::QUALITY_LOWEST) as u32;
 
 // Codes 0 to 60, increase a multiple of 200 in 0 to 24,000.
 fn well_formed(r: PowerRecord) -> bool
@@ -90,9 +90,9 @@ fn codes_in_range(d: Decoded) -> bool
 fn quality_of(sqi: i32) -> Quality
     ensures { λ q. ⌜ q ≡ qualityOf sqi ⌝ }
 {
-    let inside = (readings::QUALITY_LOWEST <= sqi) & (sqi <= readings::QUALITY_HIGHEST);
+    let inside = (readings_rules::QUALITY_LOWEST <= sqi) & (sqi <= readings_rules::QUALITY_HIGHEST);
     if inside {
-        Quality::InRange((sqi - readings::QUALITY_LOWEST) as u32)
+        Quality::InRange((sqi - readings_rules::QUALITY_LOWEST) as u32)
     } else {
         Quality::OutOfRange
     }

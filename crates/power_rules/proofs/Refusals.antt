@@ -7,8 +7,8 @@ use lib.IntN.{ℤ}
 use borrow.Author.Tests.{leb-true, le-leb}
 use Rattle.refusal.specs.Told.{Told, refused}
 use Rattle.refusal.proofs.OneToOne.{gives-refused}
-use Rattle.readings.specs.Ranges.{qualityInRange}
-use Rattle.readings.proofs.Ranges.{rangeRule}
+use Rattle.readings_rules.specs.Ranges.{qualityInRange}
+use Rattle.readings_rules.proofs.Ranges.{rangeRule}
 use Rattle.power_rules.specs.declared.PowerParameters.{PowerParameters}
 use Rattle.power_rules.specs.declared.PowerRecord.{PowerRecord}
 use Rattle.power_rules.specs.declared.Decoded.{Decoded}

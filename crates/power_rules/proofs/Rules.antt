@@ -6,8 +6,8 @@ use Prim.Native.Nat.{ℕ, suc, _+_, _-_, _*_, _/_, _≤_, _<_}
 use native.Mathlib.Omega.{arith}
 use borrow.Author.Tests.{leb-true, lt-ltb, le-ltb}
 use lib.IntN.{ℤ, pos, negsuc, _-ℤ_}
-use Rattle.readings.specs.Ranges.{qualityLowest, qualityInRange}
-use Rattle.readings.specs.Rounding.{nearestLower}
+use Rattle.readings_rules.specs.Ranges.{qualityLowest, qualityInRange}
+use Rattle.readings_rules.specs.Rounding.{nearestLower}
 use Rattle.power_rules.specs.declared.PowerParameters.{PowerParameters}
 use Rattle.power_rules.specs.declared.PowerRecord.{PowerRecord}
 use Rattle.power_rules.specs.Constants.{numericHighest, sqtStep, codeStep, thousandthsHighest}

@@ -7,7 +7,7 @@ use lib.IntN.{ℤ, pos, _-ℤ_}
 use lib.Signed.{ltZ, shrZ, _≤ℤ_, _<ℤ_, ltZ-yes, ltZ-no}
 use Rattle.refusal.specs.Told.{gives}
 use Rattle.refusal.proofs.OneToOne.{gives-refused}
-use Rattle.readings.proofs.Rule.{roundingRule}
+use Rattle.readings_rules.proofs.Rule.{roundingRule}
 use Rattle.power_rules.specs.declared.PowerParameters.{PowerParameters}
 use Rattle.power_rules.specs.declared.PowerRecord.{PowerRecord}
 use Rattle.power_rules.specs.declared.Decoded.{Decoded}

@@ -6,7 +6,7 @@ use lib.IntN.{ℤ, pos}
 use Rattle.refusal.specs.declared.Refusal.{Refusal}
 use Rattle.refusal.specs.declared.Refusal.the-variants.{ReadingOutOfRange, ParameterOutOfRange, RecordNotWellFormed}
 use Rattle.refusal.specs.Told.{refusedFor, gives}
-use Rattle.readings.specs.Ranges.{qualityInRange}
+use Rattle.readings_rules.specs.Ranges.{qualityInRange}
 use Rattle.power_rules.specs.declared.PowerParameters.{PowerParameters}
 use Rattle.power_rules.specs.declared.PowerRecord.{PowerRecord}
 use Rattle.power_rules.specs.declared.Decoded.{Decoded}

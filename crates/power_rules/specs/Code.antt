@@ -4,7 +4,7 @@ use mathlib.Core.Bool.{cond}
 use Prim.Native.Nat.{ℕ, _+_, _-_, _*_, _/_, min, max}
 use lib.Dec.{ltb}
 use lib.IntN.{ℤ, _-ℤ_, natAbs}
-use Rattle.readings.specs.Ranges.{qualityLowest, qualityHighest}
+use Rattle.readings_rules.specs.Ranges.{qualityLowest, qualityHighest}
 use Rattle.power_rules.specs.declared.PowerParameters.{PowerParameters}
 use Rattle.power_rules.specs.declared.PowerRecord.{PowerRecord}
 use Rattle.power_rules.specs.Constants.{sqtStep, codeStep, thousandthsHighest}

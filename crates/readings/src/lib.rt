@@ -1,74 +1,25 @@
-// Readings of a modem: what one burst gave, as floats and in whole hundredths of a dB. Document 01, section Readings.
+// The calls on readings: levels, qualities and bursts to hundredths of a dB, and back to floats. Document 01, section Readings.
 ghost use mathlib.Core.Path.{_≡_};
 ghost use Prim.Native.Nat.{_*_, _<_, _^_};
 ghost use lib.Dec.{T};
 ghost use lib.IntN.{natAbs};
-ghost use Rattle.readings.specs.Hundredths.{hundredthsOf, converted, levelOf, qualityOf};
-ghost use Rattle.readings.specs.Float.{shown, levelShown, qualityShown};
-ghost use Rattle.readings.specs.Burst.{burstOf, InRange};
-ghost use Rattle.readings.specs.Told.{toldHundredths, toldShown, toldBurst};
-ghost use Rattle.readings.specs.Back.{levelBack, qualityBack};
-ghost use Rattle.readings.specs.Code.{Near, inUnits, small};
-ghost use Rattle.readings.specs.Claims.{RangeRule, RoundingRule, ConversionRule, ShownRule, ReadBack, BurstRule, BurstInRange, AnswersTold, AnswersDiffer};
+ghost use Rattle.readings_rules.specs.Hundredths.{hundredthsOf, converted, levelOf, qualityOf};
+ghost use Rattle.readings_rules.specs.Float.{shown, levelShown, qualityShown};
+ghost use Rattle.readings_rules.specs.Burst.{burstOf, InRange};
+ghost use Rattle.readings_rules.specs.Told.{toldHundredths, toldShown, toldBurst};
+ghost use Rattle.readings_rules.specs.Back.{levelBack, qualityBack};
+ghost use Rattle.readings_rules.specs.Code.{Near, inUnits, small};
+pub use readings_rules::Burst;
+pub use readings_rules::BurstHundredths;
+pub use readings_rules::Hundredths;
+use readings_rules::LEVEL_HIGH;
+use readings_rules::LEVEL_LOW;
+use readings_rules::QUALITY_HIGH;
+use readings_rules::QUALITY_LOW;
+pub use readings_rules::Reading;
+pub use readings_rules::ReadingHundredths;
+pub use readings_rules::Shown;
 use refusal::Refusal;
-
-// What the modem measures in a burst that it hears: a level in dBm and a quality in dB.
-pub struct Reading {
-    pub level: f32,
-    pub quality: f32,
-}
-
-// The modem's result for one burst.
-pub enum Burst {
-    Heard(Reading),
-    Missed,
-}
-
-// A level or a quality in hundredths.
-pub enum Hundredths {
-    Value(i32),
-    Refused(Refusal),
-}
-
-// Hundredths shown as a float, in dBm or dB.
-pub enum Shown {
-    Value(f32),
-    Refused(Refusal),
-}
-
-// A reading in hundredths.
-pub struct ReadingHundredths {
-    pub level: i32,
-    pub quality: i32,
-}
-
-// A burst's result in hundredths.
-pub enum BurstHundredths {
-    Heard(ReadingHundredths),
-    Missed,
-    Refused(Refusal),
-}
-
-// The ends of the ranges: a level in whole dBm, a quality in whole dB.
-const LEVEL_LOW: i32 = -150;
-
-const LEVEL_HIGH: i32 = 0;
-
-const QUALITY_LOW: i32 = -30;
-
-const QUALITY_HIGH: i32 = 40;
-
-// The same in hundredths.
-pub const LEVEL_LOWEST: i32 = LEVEL_LOW * 100;
-
-pub const LEVEL_HIGHEST: i32 = LEVEL_HIGH * 100;
-
-pub const QUALITY_LOWEST: i32 = QUALITY_LOW * 100;
-
-pub const QUALITY_HIGHEST: i32 = QUALITY_HIGH * 100;
-
-// Channel numbers, under which readings are filed, run from 0 to this.
-pub const CHANNEL_HIGHEST: u16 = 1087;
 
 // An f32's bits: the sign's weight, and the weight of the digit that leads the others.
 const SIGN: u32 = 0x8000_0000;
@@ -204,16 +155,3 @@ pub fn burst_to_hundredths(b: Burst) -> BurstHundredths
         Burst::Missed => BurstHundredths::Missed,
     }
 }
-
-// Nothing to run: its contract is all that is claimed of the readings beyond the calls, so that the check asks for the proof of each.
-pub fn claimed()
-    ensures range { λ _. ⌜ RangeRule ⌝ }
-    ensures rounding { λ _. ⌜ RoundingRule ⌝ }
-    ensures conversion { λ _. ⌜ ConversionRule ⌝ }
-    ensures shown { λ _. ⌜ ShownRule ⌝ }
-    ensures back { λ _. ⌜ ReadBack ⌝ }
-    ensures burst { λ _. ⌜ BurstRule ⌝ }
-    ensures inside { λ _. ⌜ BurstInRange ⌝ }
-    ensures told { λ _. ⌜ AnswersTold ⌝ }
-    ensures differ { λ _. ⌜ AnswersDiffer ⌝ }
-{}

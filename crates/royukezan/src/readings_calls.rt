@@ -1,10 +1,10 @@
 // Readings: refusal 1 alone.
 ghost use mathlib.Core.Path.{_≡_};
-ghost use Rattle.readings.specs.declared.Burst.the-variants.{Heard};
-ghost use Rattle.readings.specs.Hundredths.{levelOf, qualityOf};
-ghost use Rattle.readings.specs.Float.{levelShown, qualityShown};
-ghost use Rattle.readings.specs.Back.{levelBack, qualityBack};
-ghost use Rattle.readings.specs.Burst.{burstOf};
+ghost use Rattle.readings_rules.specs.declared.Burst.the-variants.{Heard};
+ghost use Rattle.readings_rules.specs.Hundredths.{levelOf, qualityOf};
+ghost use Rattle.readings_rules.specs.Float.{levelShown, qualityShown};
+ghost use Rattle.readings_rules.specs.Back.{levelBack, qualityBack};
+ghost use Rattle.readings_rules.specs.Burst.{burstOf};
 ghost use Rattle.host_answers.specs.Answers.{hundredthsAnswer, floatAnswer, burstAnswer};
 use host_answers::BurstAnswer;
 use host_answers::FloatAnswer;

@@ -1,6 +1,6 @@
 // The band sweep and the choice over it.
 ghost use mathlib.Core.Path.{_≡_};
-ghost use Rattle.readings.specs.declared.Burst.the-variants.{Heard, Missed};
+ghost use Rattle.readings_rules.specs.declared.Burst.the-variants.{Heard, Missed};
 ghost use Rattle.sweep_rules.specs.Record.{freshSweep};
 ghost use Rattle.sweep_rules.specs.Filing.{filing, checking};
 ghost use Rattle.sweep_rules.specs.Next.{nextTold};

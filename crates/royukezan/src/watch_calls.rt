@@ -1,6 +1,6 @@
 // The neighbour watch.
 ghost use mathlib.Core.Path.{_≡_};
-ghost use Rattle.readings.specs.declared.Burst.the-variants.{Heard, Missed};
+ghost use Rattle.readings_rules.specs.declared.Burst.the-variants.{Heard, Missed};
 ghost use Rattle.watch_rules.specs.Told.{Call};
 ghost use Rattle.watch_rules.specs.Record.{fresh as freshWatch, called, tested};
 ghost use Rattle.host_answers.specs.Answers.{refusalNumber, watchOutcome, levelsAnswer, verdictAnswer};

@@ -4,8 +4,8 @@ use mathlib.Core.List.{List}
 use lib.ListN.{set}
 use Rattle.refusal.specs.Told.{accepted}
 use lib.IntN.{ℤ}
-use Rattle.readings.specs.declared.Burst.{Burst}
-use Rattle.readings.specs.declared.Burst.the-variants.{Missed}
+use Rattle.readings_rules.specs.declared.Burst.{Burst}
+use Rattle.readings_rules.specs.declared.Burst.the-variants.{Missed}
 use Rattle.sweep_rules.specs.declared.Sweep.{Sweep}
 use Rattle.sweep_rules.specs.Filing.{filing, leaves, answers}
 use Rattle.choice_rules.specs.Choose.{choosing}

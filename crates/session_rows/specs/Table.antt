@@ -4,10 +4,10 @@ use Prim.Native.Nat.{ℕ}
 use mathlib.Core.Bool.{cond}
 use mathlib.Core.List.{List, [], _∷_, _++_, map}
 use lib.ListN.{length}
-use Rattle.readings.specs.declared.Burst.the-variants.{Missed}
-use Rattle.readings.specs.Channels.{channelInRange}
-use Rattle.readings.specs.Hundredths.{levelOf, qualityOf}
-use Rattle.readings.specs.Float.{levelShown, qualityShown}
+use Rattle.readings_rules.specs.declared.Burst.the-variants.{Missed}
+use Rattle.readings_rules.specs.Channels.{channelInRange}
+use Rattle.readings_rules.specs.Hundredths.{levelOf, qualityOf}
+use Rattle.readings_rules.specs.Float.{levelShown, qualityShown}
 use Rattle.sweep_rules.specs.Record.{firstSwept, sweptChannels, freshSweep}
 use Rattle.sweep_rules.specs.Next.{nextTold}
 use Rattle.sweep_rules.specs.Counts.{countsTold}

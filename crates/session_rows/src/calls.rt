@@ -1,13 +1,13 @@
 // What a call does: it is made on the state through the library, and its answer becomes a line of text.
 ghost use mathlib.Core.Path.{_≡_};
 ghost use mathlib.Core.Bool.{cond};
-ghost use Rattle.readings.specs.Channels.{channelInRange};
+ghost use Rattle.readings_rules.specs.Channels.{channelInRange};
 ghost use Rattle.sweep_rules.specs.Record.{firstSwept, sweptChannels};
 ghost use Rattle.session_rows.specs.Calls.{toldAnswered, accepts, withSweep, missedFrom, sweepFiled, outcomeSet, chosen};
 ghost use Rattle.session_rows.specs.Calls.{powerStarted, powerStepped, malformed};
 use power::Decoded;
 use readings::Burst;
-use readings::CHANNEL_HIGHEST;
+use readings_rules::CHANNEL_HIGHEST;
 use refusal::Outcome;
 use session_answers::of_choice;
 use session_answers::of_error;

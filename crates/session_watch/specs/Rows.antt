@@ -2,8 +2,8 @@
 -- line, by their places from 0 on.
 use Prim.Native.Nat.{ℕ, suc}
 use mathlib.Core.List.{List, [], _∷_}
-use Rattle.readings.specs.declared.Burst.{Burst}
-use Rattle.readings.specs.declared.Burst.the-variants.{Heard, Missed}
+use Rattle.readings_rules.specs.declared.Burst.{Burst}
+use Rattle.readings_rules.specs.declared.Burst.the-variants.{Heard, Missed}
 use Rattle.watch_rules.specs.Told.{Call, start, newList, move, file, ask, verdict}
 use Rattle.session_values.specs.Values.{CH, INT, NUM, channelsOf}
 use Rattle.session_calls.specs.Table.{Row, _asks_}

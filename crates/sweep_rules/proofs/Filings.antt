@@ -12,14 +12,14 @@ use lib.ListN.{length, getD, replicate, length-append, length-replicate}
 use lib.IntN.{ℤ, pos}
 use Rattle.refusal.specs.Told.{Told, refused, gives}
 use Rattle.refusal.proofs.OneToOne.{gives-refused}
-use Rattle.readings.specs.declared.Burst.{Burst}
-use Rattle.readings.specs.declared.Burst.the-variants.{Heard, Missed}
-use Rattle.readings.specs.declared.Reading.{Reading}
-use Rattle.readings.specs.Ranges.{levelLow, levelHigh}
-use Rattle.readings.specs.Claims.{LevelInRange}
-use Rattle.readings.proofs.Ranges.{rangeRule}
-use Rattle.readings.specs.Hundredths.{levelOf}
-use Rattle.readings.proofs.Bursts.{converted-in}
+use Rattle.readings_rules.specs.declared.Burst.{Burst}
+use Rattle.readings_rules.specs.declared.Burst.the-variants.{Heard, Missed}
+use Rattle.readings_rules.specs.declared.Reading.{Reading}
+use Rattle.readings_rules.specs.Ranges.{levelLow, levelHigh}
+use Rattle.readings_rules.specs.Claims.{LevelInRange}
+use Rattle.readings_rules.proofs.Ranges.{rangeRule}
+use Rattle.readings_rules.specs.Hundredths.{levelOf}
+use Rattle.readings_rules.proofs.Bursts.{converted-in}
 use Rattle.sweep_rules.specs.Map.{channels, bitAt, isSet, setBits}
 use Rattle.sweep_rules.specs.Record.{visited, heard, levelAt, freshSweep}
 use Rattle.sweep_rules.specs.Filing.{filing, leaves}

@@ -11,9 +11,9 @@ use lib.ListN.{getD}
 use lib.IntN.{pos}
 use lib.Dec.{eqb, leb}
 use borrow.Author.Tests.{eqb-true, eq-eqb, leb-true, leb-false, le-leb}
-use Rattle.readings.specs.Ranges.{levelInRange}
-use Rattle.readings.proofs.Ranges.{rangeRule}
-use Rattle.readings.specs.Channels.{channelHighest}
+use Rattle.readings_rules.specs.Ranges.{levelInRange}
+use Rattle.readings_rules.proofs.Ranges.{rangeRule}
+use Rattle.readings_rules.specs.Channels.{channelHighest}
 use Rattle.sweep_rules.specs.Map.{channels, bitAt, isSet, allBelow}
 use Rattle.sweep_rules.specs.Record.{firstSwept, lastSwept, swept, visited, heard, levelAt, implies, isZero, heardWhereVisited, noBitOutside, zeroWhereNotHeard, levelsInRange, wellFormed}
 use Rattle.sweep_rules.specs.Claims.{WellFormed, WellFormedRule}

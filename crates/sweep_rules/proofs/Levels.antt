@@ -10,7 +10,7 @@ use native.Mathlib.Omega.{arith}
 use lib.IntN.{ℤ, pos, negsuc, natAbs}
 use lib.Dec.{eqb}
 use lib.Pow.{pow-pos}
-use Rattle.readings.specs.Ranges.{levelInRange}
+use Rattle.readings_rules.specs.Ranges.{levelInRange}
 use borrow.Author.Tests.{eqb-true}
 use mir.Syntax.{w32}
 use mir.Val.{toZ, ofZ, SFits}

@@ -13,11 +13,11 @@ use lib.Dec.{eqb, leb}
 use borrow.Author.Tests.{eqb-true, eq-eqb, leb-true, leb-false}
 use Rattle.refusal.specs.Told.{Told, refused, gives, accepted}
 use Rattle.refusal.proofs.OneToOne.{gives-refused}
-use Rattle.readings.specs.declared.Burst.{Burst}
-use Rattle.readings.specs.declared.Burst.the-variants.{Heard, Missed}
-use Rattle.readings.specs.declared.Reading.{Reading}
-use Rattle.readings.specs.Burst.{burstOf, bothOf}
-use Rattle.readings.specs.Hundredths.{levelOf, qualityOf}
+use Rattle.readings_rules.specs.declared.Burst.{Burst}
+use Rattle.readings_rules.specs.declared.Burst.the-variants.{Heard, Missed}
+use Rattle.readings_rules.specs.declared.Reading.{Reading}
+use Rattle.readings_rules.specs.Burst.{burstOf, bothOf}
+use Rattle.readings_rules.specs.Hundredths.{levelOf, qualityOf}
 use Rattle.sweep_rules.specs.Map.{isSet, withBit}
 use Rattle.sweep_rules.specs.Record.{visited, heard, wellFormed}
 use Rattle.sweep_rules.specs.Filing.{withMissed, withHeard, withBurst, filing, leaves, answers}

@@ -8,14 +8,14 @@ use lib.Dec.{leb}
 use borrow.Author.Tests.{leb-false}
 use Rattle.refusal.specs.Told.{Told, refused, gives}
 use Rattle.refusal.proofs.OneToOne.{gives-refused}
-use Rattle.readings.specs.declared.Burst.{Burst}
-use Rattle.readings.specs.declared.Burst.the-variants.{Heard, Missed}
-use Rattle.readings.specs.declared.Reading.{Reading}
-use Rattle.readings.specs.Hundredths.{levelOf, qualityOf}
-use Rattle.readings.specs.Burst as readings
-use Rattle.readings.specs.Burst.{BurstResult, burstOf}
-use Rattle.readings.proofs.Conversion.{conversionRule}
-use Rattle.readings.proofs.Bursts.{burstRule}
+use Rattle.readings_rules.specs.declared.Burst.{Burst}
+use Rattle.readings_rules.specs.declared.Burst.the-variants.{Heard, Missed}
+use Rattle.readings_rules.specs.declared.Reading.{Reading}
+use Rattle.readings_rules.specs.Hundredths.{levelOf, qualityOf}
+use Rattle.readings_rules.specs.Burst as readings
+use Rattle.readings_rules.specs.Burst.{BurstResult, burstOf}
+use Rattle.readings_rules.proofs.Conversion.{conversionRule}
+use Rattle.readings_rules.proofs.Bursts.{burstRule}
 use Rattle.sweep_rules.specs.Record.{swept, visited, wellFormed}
 use Rattle.sweep_rules.specs.Filing.{withBurst, filing, answers, checking}
 use Rattle.sweep_rules.specs.Next.{nextOf, nextTold}

@@ -13,11 +13,11 @@ use Rattle.refusal.specs.declared.Refusal.{Refusal}
 use Rattle.refusal.specs.Number.{numberOf}
 use Rattle.refusal.specs.Told.{Told, refused, gives, accepted}
 use Rattle.refusal.specs.Claims.{OneToOne}
-use Rattle.readings.specs.declared.Burst.{Burst}
-use Rattle.readings.specs.declared.Burst.the-variants.{Heard, Missed}
-use Rattle.readings.specs.declared.Reading.{Reading}
-use Rattle.readings.specs.Claims.{LevelInRange, Within}
-use Rattle.readings.specs.Hundredths.{levelOf}
+use Rattle.readings_rules.specs.declared.Burst.{Burst}
+use Rattle.readings_rules.specs.declared.Burst.the-variants.{Heard, Missed}
+use Rattle.readings_rules.specs.declared.Reading.{Reading}
+use Rattle.readings_rules.specs.Claims.{LevelInRange, Within}
+use Rattle.readings_rules.specs.Hundredths.{levelOf}
 use Rattle.sweep_rules.specs.Map.{isSet, withBit, setBits}
 use Rattle.sweep_rules.specs.Record.{visited, heard, levelAt, freshSweep, finished, wellFormed}
 use Rattle.sweep_rules.specs.Filing.{filing, leaves, answers, checking}

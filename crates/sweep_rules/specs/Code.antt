@@ -4,7 +4,7 @@ use mathlib.Core.Bool.{Bool, _&&_, _||_}
 use mathlib.Core.List.{List}
 use lib.ListN.{getD}
 use lib.IntN.{ℤ, pos}
-use Rattle.readings.specs.Ranges.{levelInRange}
+use Rattle.readings_rules.specs.Ranges.{levelInRange}
 use Rattle.sweep_rules.specs.Map.{wordBits, isSet, bitAt, allBelow}
 use Rattle.sweep_rules.specs.Record.{implies, swept, everyChannel, isZero}
 

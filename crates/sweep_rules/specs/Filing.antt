@@ -6,9 +6,9 @@ use lib.IntN.{ℤ}
 use Rattle.refusal.specs.declared.Refusal.{Refusal}
 use Rattle.refusal.specs.declared.Refusal.the-variants.{ChannelOutOfRange, ChannelVisited, RecordNotWellFormed}
 use Rattle.refusal.specs.Told.{Told, refused, gives, refusedFor, accepted}
-use Rattle.readings.specs.declared.Burst.{Burst}
-use Rattle.readings.specs.Burst as readings
-use Rattle.readings.specs.Burst.{BurstResult, burstOf}
+use Rattle.readings_rules.specs.declared.Burst.{Burst}
+use Rattle.readings_rules.specs.Burst as readings
+use Rattle.readings_rules.specs.Burst.{BurstResult, burstOf}
 use Rattle.sweep_rules.specs.Map.{withBit}
 use Rattle.sweep_rules.specs.Record.{swept, visited, wellFormed}
 use Rattle.sweep_rules.specs.declared.Sweep.{Sweep}

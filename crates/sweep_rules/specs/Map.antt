@@ -4,7 +4,7 @@ use mathlib.Core.Bool.{Bool, true, _&&_, cond}
 use mathlib.Core.List.{List}
 use lib.ListN.{getD, set}
 use lib.Dec.{eqb}
-use Rattle.readings.specs.Channels.{channelHighest}
+use Rattle.readings_rules.specs.Channels.{channelHighest}
 
 -- how many channel numbers there are: 0 to 1,087
 abbrev pub channels : ℕ

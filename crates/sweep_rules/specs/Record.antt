@@ -4,7 +4,7 @@ use mathlib.Core.Bool.{Bool, true, false, _&&_, _||_, not}
 use lib.ListN.{getD, replicate}
 use lib.IntN.{ℤ, pos, natAbs}
 use lib.Dec.{eqb, leb}
-use Rattle.readings.specs.Ranges.{levelInRange}
+use Rattle.readings_rules.specs.Ranges.{levelInRange}
 use Rattle.sweep_rules.specs.Map.{channels, words, isSet, allBelow}
 use Rattle.sweep_rules.specs.declared.Sweep.{Sweep}
 

@@ -43,7 +43,7 @@ pub struct SweepNumbers {
 }
 
 // How many channel numbers there are: 1,088.
-pub const CHANNELS: usize = readings::CHANNEL_HIGHEST as usize + 1;
+pub const CHANNELS: usize = readings_rules::CHANNEL_HIGHEST as usize + 1;
 
 // The channels that the sweep visits.
 pub const FIRST_SWEPT: usize = 2;

@@ -5,7 +5,7 @@ use mathlib.Core.Bool.{true}
 use lib.IntN.{ℤ, pos, natAbs, _-ℤ_}
 use lib.Signed.{ltZ, leZ}
 use borrow.Author.Tests.{ltb-false, not-true}
-use Rattle.readings.specs.Ranges.{levelLowest, levelHighest, levelInRange}
+use Rattle.readings_rules.specs.Ranges.{levelLowest, levelHighest, levelInRange}
 use Rattle.watch.specs.Code.{belowTop, levelSpan}
 use Rattle.watch_rules.proofs.Laws.{and-left, and-right}
 use Rattle.watch.proofs.Whole.{leZ-not-ltZ, order-below, minus-minus, apart-is}

@@ -13,7 +13,7 @@ use lib.ListN.{length, take, getD}
 use lib.Seq.{take-suc}
 use mir.Syntax.{w32}
 use mir.Val.{SFits}
-use Rattle.readings.specs.Ranges.{levelHighest, levelInRange}
+use Rattle.readings_rules.specs.Ranges.{levelHighest, levelInRange}
 use Rattle.watch_rules.specs.declared.Track.{Track}
 use Rattle.watch_rules.specs.Lists.{every, sum}
 use Rattle.watch_rules.specs.Limits.{depth}

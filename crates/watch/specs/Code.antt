@@ -6,7 +6,7 @@ use mathlib.Core.Option.{Option, none, some}
 use lib.Dec.{eqb, leb, ltb}
 use lib.IntN.{ℤ, pos, natAbs, _-ℤ_}
 use lib.ListN.{length, set}
-use Rattle.readings.specs.Ranges.{levelLowest, levelHighest}
+use Rattle.readings_rules.specs.Ranges.{levelLowest, levelHighest}
 use Rattle.watch_rules.specs.declared.Track.{Track}
 use Rattle.watch_rules.specs.declared.Watch.{Watch}
 use Rattle.watch_rules.specs.Limits.{hysteresisHighest, depth}

@@ -14,7 +14,7 @@ use mir.Val.{SFits, ofZ}
 use borrow.Author.Tests.{eqb-true, ne-eqb, le-leb, lt-leb, leb-true, leb-false, ltb-true, ltb-false}
 use Rattle.watch_rules.specs.declared.Track.{Track}
 use Rattle.watch_rules.specs.Lists.{mem, every, distinct}
-use Rattle.readings.specs.Ranges.{levelInRange}
+use Rattle.readings_rules.specs.Ranges.{levelInRange}
 use Rattle.watch_rules.specs.Rows.{channels}
 use Rattle.watch_rules.specs.Record.{rowOf, isZero, levelsFine, trackFine, trackUnused, tracksFine}
 use Rattle.watch_record.specs.Code.{nothing, placeOf, channelsOf}

@@ -7,7 +7,7 @@ use mathlib.Core.Option.{Option, none, some}
 use lib.IntN.{ℤ, pos}
 use lib.Signed.{_≤ℤ_}
 use borrow.Author.Tests.{lt-leb}
-use Rattle.readings.specs.Channels.{channelHighest}
+use Rattle.readings_rules.specs.Channels.{channelHighest}
 use Rattle.refusal.specs.declared.Refusal.the-variants as why
 use Rattle.refusal.specs.Told.{Told, gives}
 use Rattle.watch_rules.specs.Lists.{is, sum}

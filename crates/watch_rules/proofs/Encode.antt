@@ -9,11 +9,11 @@ use lib.Dec.{eqb, leb, leb·zero}
 use lib.IntN.{ℤ, pos, negsuc}
 use lib.ListN.{length, take, length-map}
 use borrow.Author.Tests.{eqb-true, eq-eqb, le-leb, leb-true}
-use Rattle.readings.specs.Ranges.{levelInRange}
+use Rattle.readings_rules.specs.Ranges.{levelInRange}
 use Rattle.watch_rules.specs.declared.Track.{Track}
 use Rattle.watch_rules.specs.declared.Watch.{Watch}
 use Rattle.watch_rules.specs.Lists.{distinct, every, padTo}
-use Rattle.readings.specs.Channels.{channelInRange}
+use Rattle.readings_rules.specs.Channels.{channelInRange}
 use Rattle.watch_rules.specs.Limits.{depth, capacity, room}
 use Rattle.watch_rules.specs.Rows.{Row, row, channels}
 use Rattle.watch_rules.specs.Record.{rowOf, rows, trackOf, unused, recordOf, isZero, levelsFine, trackFine, trackUnused, tracksFine, wellFormed}

@@ -7,9 +7,9 @@ use mathlib.Core.List.{List, _∷_, List·Memᴰ, List·Memᴰ·head, List·Mem�
 use native.Mathlib.Omega.{arith}
 use lib.ListN.{length, take}
 use borrow.Author.Tests.{leb-true}
-use Rattle.readings.specs.Channels.{channelInRange}
-use Rattle.readings.specs.Ranges.{levelInRange}
-use Rattle.readings.proofs.Ranges.{rangeRule}
+use Rattle.readings_rules.specs.Channels.{channelInRange}
+use Rattle.readings_rules.specs.Ranges.{levelInRange}
+use Rattle.readings_rules.proofs.Ranges.{rangeRule}
 use Rattle.watch_rules.specs.declared.Watch.{Watch}
 use Rattle.watch_rules.specs.Lists.{every}
 use Rattle.watch_rules.specs.Told.{Call}

@@ -7,9 +7,9 @@ use lib.Dec.{leb}
 use lib.IntN.{ℤ}
 use lib.ListN.{length}
 use borrow.Author.Tests.{leb-true}
-use Rattle.readings.specs.Ranges.{levelInRange}
+use Rattle.readings_rules.specs.Ranges.{levelInRange}
 use Rattle.watch_rules.specs.Lists.{distinct, every}
-use Rattle.readings.specs.Channels.{channelInRange}
+use Rattle.readings_rules.specs.Channels.{channelInRange}
 use Rattle.watch_rules.specs.Limits.{depth, room}
 use Rattle.watch_rules.specs.Rows.{Row, channels}
 use Rattle.watch_rules.proofs.Laws.{and-left, and-right}

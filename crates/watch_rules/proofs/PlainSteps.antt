@@ -12,8 +12,8 @@ use borrow.Author.Tests.{eqb-false, eq-eqb, ne-eqb}
 use Rattle.refusal.specs.declared.Refusal.{Refusal}
 use Rattle.refusal.specs.Told.{refused, gives}
 use Rattle.refusal.proofs.OneToOne.{gives-refused}
-use Rattle.readings.specs.declared.Burst.the-variants.{Missed}
-use Rattle.readings.specs.Burst.{heard}
+use Rattle.readings_rules.specs.declared.Burst.the-variants.{Missed}
+use Rattle.readings_rules.specs.Burst.{heard}
 use Rattle.watch_rules.specs.Lists.{mem, is}
 use Rattle.watch_rules.specs.Told.{Call, start, newList, move, file, ask, verdict}
 use Rattle.watch_rules.specs.Rules.{refusal, answer, unlessRefused}

@@ -15,16 +15,16 @@ use borrow.Author.Tests.{eq-eqb, ne-eqb, le-leb, leb-true}
 use Rattle.refusal.specs.declared.Refusal.{Refusal}
 use Rattle.refusal.specs.declared.Refusal.the-variants as why
 use Rattle.refusal.specs.Told.{Told, gives}
-use Rattle.readings.specs.declared.Burst.{Burst}
-use Rattle.readings.specs.declared.Burst.the-variants.{Heard}
-use Rattle.readings.specs.Ranges.{levelInRange}
-use Rattle.readings.specs.Float.{floatOf}
-use Rattle.readings.specs.Burst.{BurstResult, heard, bothOf, burstOf}
-use Rattle.readings.proofs.NearestFloat.{float-single}
-use Rattle.readings.proofs.Back.{level-back, quality-back}
+use Rattle.readings_rules.specs.declared.Burst.{Burst}
+use Rattle.readings_rules.specs.declared.Burst.the-variants.{Heard}
+use Rattle.readings_rules.specs.Ranges.{levelInRange}
+use Rattle.readings_rules.specs.Float.{floatOf}
+use Rattle.readings_rules.specs.Burst.{BurstResult, heard, bothOf, burstOf}
+use Rattle.readings_rules.proofs.NearestFloat.{float-single}
+use Rattle.readings_rules.proofs.Back.{level-back, quality-back}
 use Rattle.watch_rules.specs.declared.Watch.{Watch}
 use Rattle.watch_rules.specs.Lists.{mem, distinct, every}
-use Rattle.readings.specs.Channels.{channelHighest, channelInRange}
+use Rattle.readings_rules.specs.Channels.{channelHighest, channelInRange}
 use Rattle.watch_rules.specs.Limits.{listLimit, depth}
 use Rattle.watch_rules.specs.Told.{Call, start, newList, file, Called}
 use Rattle.watch_rules.specs.Rules.{refusal, burstRefusal, listSound, unlessRefused}

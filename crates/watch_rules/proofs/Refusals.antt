@@ -17,9 +17,9 @@ use Rattle.refusal.specs.declared.Refusal.the-variants as why
 use Rattle.refusal.specs.Number.{numberOf}
 use Rattle.refusal.specs.Told.{Told, refused, gives}
 use Rattle.refusal.proofs.OneToOne.{gives-refused}
-use Rattle.readings.specs.Channels.{channelInRange}
-use Rattle.readings.specs.Burst.{BurstResult, burstOf}
-use Rattle.readings.proofs.Bursts.{burst-1}
+use Rattle.readings_rules.specs.Channels.{channelInRange}
+use Rattle.readings_rules.specs.Burst.{BurstResult, burstOf}
+use Rattle.readings_rules.proofs.Bursts.{burst-1}
 use Rattle.watch_rules.specs.Lists.{distinct, every, is}
 use Rattle.watch_rules.specs.Limits.{listLimit, hysteresisInRange}
 use Rattle.watch_rules.specs.Told.{Call, start, newList, move, file, ask, verdict, Given}

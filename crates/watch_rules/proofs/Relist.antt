@@ -10,7 +10,7 @@ use lib.IntN.{ℤ}
 use lib.ListN.{length, length-map}
 use borrow.Author.Tests.{eqb-true, eqb-false, eq-eqb, ne-eqb, le-leb}
 use Rattle.watch_rules.specs.Lists.{mem, distinct, every}
-use Rattle.readings.specs.Channels.{channelInRange}
+use Rattle.readings_rules.specs.Channels.{channelInRange}
 use Rattle.watch_rules.specs.Limits.{listLimit, room, depth}
 use Rattle.watch_rules.specs.Rows.{Row, row, channels, levelsOf, rest, relisted, inPlaceOf}
 use Rattle.watch_rules.proofs.Laws.{byCase, clash, and-left, and-right, and-both, not-is, or-true-right, or-false-left, or-false-right, eqb-sym}

@@ -10,7 +10,7 @@ use lib.Dec.{eqb, leb}
 use lib.ListN.{length}
 use borrow.Author.Tests.{eqb-true, eq-eqb}
 use Rattle.watch_rules.specs.Lists.{mem, timesIn, distinct, every, is}
-use Rattle.readings.specs.Channels.{channelInRange}
+use Rattle.readings_rules.specs.Channels.{channelInRange}
 use Rattle.watch_rules.specs.Limits.{listLimit}
 use Rattle.watch_rules.specs.Rules.{listSound}
 use Rattle.watch_rules.specs.Claims.{Reordered}

@@ -12,11 +12,11 @@ use lib.ListN.{length, length-map}
 use borrow.Author.Tests.{eqb-true, eq-eqb, ne-eqb, le-leb, leb-true}
 use Rattle.refusal.specs.declared.Refusal.the-variants as why
 use Rattle.refusal.specs.Told.{Told, refused, gives}
-use Rattle.readings.specs.Ranges.{levelInRange}
-use Rattle.readings.specs.Burst.{BurstResult, heard, missed, burstOf, InRange}
-use Rattle.readings.proofs.Bursts.{burst-in-range}
+use Rattle.readings_rules.specs.Ranges.{levelInRange}
+use Rattle.readings_rules.specs.Burst.{BurstResult, heard, missed, burstOf, InRange}
+use Rattle.readings_rules.proofs.Bursts.{burst-in-range}
 use Rattle.watch_rules.specs.Lists.{mem, distinct, every, is, lastN}
-use Rattle.readings.specs.Channels.{channelInRange}
+use Rattle.readings_rules.specs.Channels.{channelInRange}
 use Rattle.watch_rules.specs.Limits.{listLimit, depth, room}
 use Rattle.watch_rules.specs.Told.{Call, start, newList, move, file, ask, verdict}
 use Rattle.watch_rules.specs.Rules.{View, watched, serves, refusal, listSound, burstRefusal}

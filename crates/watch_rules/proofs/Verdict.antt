@@ -15,7 +15,7 @@ use Rattle.refusal.specs.declared.Refusal.the-variants as why
 use Rattle.refusal.specs.Told.{Told, gives}
 use Rattle.watch_rules.specs.declared.Watch.{Watch}
 use Rattle.watch_rules.specs.Lists.{every, is, sum}
-use Rattle.readings.specs.Channels.{channelHighest, channelInRange}
+use Rattle.readings_rules.specs.Channels.{channelHighest, channelInRange}
 use Rattle.watch_rules.specs.Limits.{depth}
 use Rattle.watch_rules.specs.Told.{Call, verdict, Given, wait, stay, moveTo}
 use Rattle.watch_rules.specs.Rules.{View, serves, answer, full, levelsIf, servingLevels, exceeds, counts, target, stayOrMove, verdictOf}

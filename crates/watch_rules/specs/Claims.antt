@@ -16,10 +16,10 @@ use Rattle.refusal.specs.declared.Refusal.{Refusal}
 use Rattle.refusal.specs.Number.{numberOf}
 use Rattle.refusal.specs.Told.{Told, refused, gives}
 use Rattle.refusal.specs.Claims.{OneToOne}
-use Rattle.readings.specs.declared.Burst.{Burst}
-use Rattle.readings.specs.declared.Burst.the-variants.{Heard, Missed}
-use Rattle.readings.specs.Burst.{heard, burstOf}
-use Rattle.readings.specs.Claims.{LevelInRange}
+use Rattle.readings_rules.specs.declared.Burst.{Burst}
+use Rattle.readings_rules.specs.declared.Burst.the-variants.{Heard, Missed}
+use Rattle.readings_rules.specs.Burst.{heard, burstOf}
+use Rattle.readings_rules.specs.Claims.{LevelInRange}
 use Rattle.watch_rules.specs.declared.Track.{Track}
 use Rattle.watch_rules.specs.declared.Watch.{Watch}
 use Rattle.watch_rules.specs.declared.Answer.the-variants as says

@@ -6,7 +6,7 @@ use mathlib.Core.Option.{Option, none, some}
 use lib.Dec.{eqb}
 use lib.IntN.{ℤ}
 use Rattle.refusal.specs.Told.{Told, refused, gives}
-use Rattle.readings.specs.Burst.{BurstResult, heard, missed, burstOf}
+use Rattle.readings_rules.specs.Burst.{BurstResult, heard, missed, burstOf}
 use Rattle.watch_rules.specs.Lists.{mem, is, lastN}
 use Rattle.watch_rules.specs.Limits.{depth}
 use Rattle.watch_rules.specs.Told.{Call, start, newList, move, file, ask, verdict, Given}

@@ -7,11 +7,11 @@ use lib.IntN.{ℤ, pos, negsuc}
 use lib.ListN.{length, take}
 use Rattle.refusal.specs.declared.Refusal.the-variants.{RecordNotWellFormed}
 use Rattle.refusal.specs.Told.{Told, gives, refusedFor}
-use Rattle.readings.specs.Ranges.{levelInRange}
+use Rattle.readings_rules.specs.Ranges.{levelInRange}
 use Rattle.watch_rules.specs.declared.Track.{Track}
 use Rattle.watch_rules.specs.declared.Watch.{Watch}
 use Rattle.watch_rules.specs.Lists.{distinct, padTo}
-use Rattle.readings.specs.Channels.{channelInRange}
+use Rattle.readings_rules.specs.Channels.{channelInRange}
 use Rattle.watch_rules.specs.Limits.{depth, capacity, room}
 use Rattle.watch_rules.specs.Told.{Call, Called, Given, accepted}
 use Rattle.watch_rules.specs.Rules.{refusal, answer, unlessRefused}

@@ -10,8 +10,8 @@ use lib.IntN.{ℤ, pos}
 use lib.Signed.{_≤ℤ_, _<ℤ_}
 use lib.ListN.{length}
 use Rattle.refusal.specs.Told.{refused}
-use Rattle.readings.specs.declared.Burst.{Burst}
-use Rattle.readings.specs.Burst.{burstOf}
+use Rattle.readings_rules.specs.declared.Burst.{Burst}
+use Rattle.readings_rules.specs.Burst.{burstOf}
 use Rattle.watch_rules.specs.Lists.{timesIn}
 use Rattle.watch_rules.specs.Told.{Call, start, newList, move, file, ask, verdict}
 use Rattle.watch_rules.specs.Plain.{Plain}

@@ -11,9 +11,9 @@ use lib.ListN.{length}
 use Rattle.refusal.specs.declared.Refusal.{Refusal}
 use Rattle.refusal.specs.declared.Refusal.the-variants.{ReadingOutOfRange, ChannelOutOfRange, ListFaulty, NotWatched, ParameterOutOfRange}
 use Rattle.refusal.specs.Told.{Told, refused, gives, refusedFor}
-use Rattle.readings.specs.Burst.{BurstResult, burstOf}
+use Rattle.readings_rules.specs.Burst.{BurstResult, burstOf}
 use Rattle.watch_rules.specs.Lists.{distinct, every, is, sum}
-use Rattle.readings.specs.Channels.{channelHighest, channelInRange}
+use Rattle.readings_rules.specs.Channels.{channelHighest, channelInRange}
 use Rattle.watch_rules.specs.Limits.{listLimit, hysteresisInRange, depth}
 use Rattle.watch_rules.specs.Told.{Call, start, newList, move, file, ask, verdict, Given, accepted, levels, wait, stay, moveTo}
 

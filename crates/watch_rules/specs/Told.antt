@@ -3,7 +3,7 @@ use Prim.Native.Nat.{ℕ}
 use mathlib.Core.List.{List}
 use lib.IntN.{ℤ}
 use Rattle.refusal.specs.Told.{Told, refusedFor, gives}
-use Rattle.readings.specs.declared.Burst.{Burst}
+use Rattle.readings_rules.specs.declared.Burst.{Burst}
 use Rattle.watch_rules.specs.declared.Watch.{Watch}
 use Rattle.watch_rules.specs.declared.Handed.{Handed}
 use Rattle.watch_rules.specs.declared.Answer.{Answer}

@@ -8,7 +8,7 @@ use lib.ListN.{getD, set}
 use lib.IntN.{ℤ, pos}
 use mir.Syntax.{w32}
 use mir.ValLaws.{toZ-ofZ}
-use Rattle.readings.specs.Ranges.{levelInRange}
+use Rattle.readings_rules.specs.Ranges.{levelInRange}
 use Rattle.sweep_rules.specs.Map.{channels, isSet}
 use Rattle.sweep_rules.specs.Record.{levelAt}
 use Rattle.sweep_rules.proofs.Formed.{level-range, wellFormedRule}

@@ -2,8 +2,8 @@
 -- `Choices`, and a law leads from there to what is chosen.
 use mathlib.Core.Path.{refl}
 use lib.Ieee.{ofBits, ofFields}
-use Rattle.readings.specs.Hundredths.{within, hundredthsOf, converted}
-use Rattle.readings.specs.Rounding.{nearestLower}
+use Rattle.readings_rules.specs.Hundredths.{within, hundredthsOf, converted}
+use Rattle.readings_rules.specs.Rounding.{nearestLower}
 use Rattle.watch_rules.specs.Limits.{depth}
 use Rattle.watch_rules.specs.Rules.{full, counts, best, target, answer}
 use Rattle.watch_rules.specs.Record.{wellFormed, called}

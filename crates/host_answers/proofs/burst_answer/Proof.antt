@@ -3,7 +3,7 @@ use mathlib.Core.Path.{ap₂}
 use lib.IntN.{ℤ}
 use mir.Facts.{toZ-ofZ}
 use Rattle.refusal.specs.Told.{gives}
-use Rattle.readings.specs.Burst.{heard}
+use Rattle.readings_rules.specs.Burst.{heard}
 use Rattle.host_answers.specs.Answers.{burstAnswer}
 use borrow.Author.Needs.{needs}
 use Rattle.host_answers.proofs.burst_answer.Statement.{statement}

@@ -5,7 +5,7 @@ use lib.IntN.{ℤ, natAbs, _-ℤ_}
 use mir.Syntax.{w32}
 use mir.Val.{toZ, ofZ}
 use mir.ValLaws.{toZ-ofZ}
-use Rattle.readings.specs.Ranges.{qualityLowest}
+use Rattle.readings_rules.specs.Ranges.{qualityLowest}
 use Rattle.power.specs.Code.{qualityOf}
 use Rattle.power.specs.declared.Quality.the-variants.{InRange}
 use Rattle.power_rules.proofs.Rules.{Above, above}

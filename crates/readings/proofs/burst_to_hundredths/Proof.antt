@@ -4,9 +4,9 @@ use lib.IntN.{ℤ}
 use mir.Syntax.{w32}
 use mir.Val.{toZ, ofZ}
 use Rattle.refusal.specs.Told.{Told, gives}
-use Rattle.readings.specs.Burst.{heard, burstOf}
-use Rattle.readings.specs.Told.{toldHundredths}
-use Rattle.readings.proofs.Bursts.{burst-is, in-range-too}
+use Rattle.readings_rules.specs.Burst.{heard, burstOf}
+use Rattle.readings_rules.specs.Told.{toldHundredths}
+use Rattle.readings_rules.proofs.Bursts.{burst-is, in-range-too}
 use borrow.Author.Needs.{needs}
 use Rattle.readings.proofs.burst_to_hundredths.Statement.{statement}
 use Rattle.readings.proofs.burst_to_hundredths.Tie as tie

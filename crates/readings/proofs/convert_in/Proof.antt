@@ -9,7 +9,7 @@ use mir.Syntax.{w32}
 use mir.Val.{toZ, ofZ}
 use mir.ValLaws.{toZ-ofZ}
 use borrow.Author.Needs.{sfits-of}
-use Rattle.readings.proofs.Range.{in-float, inside-small, inside, too-high, too-low}
+use Rattle.readings_rules.proofs.Range.{in-float, inside-small, inside, too-high, too-low}
 use Rattle.readings.proofs.convert_in.Statement.{statement}
 use Rattle.readings.proofs.convert_in.Tie as tie
 use Rattle.readings.proofs.convert_in.Reads as reads

@@ -3,10 +3,10 @@ use mathlib.Core.Path.{_≡_, sym, ap, _∙_}
 use lib.Dec.{lit<}
 use mir.Syntax.{w32}
 use mir.ValLaws.{toZ-ofZ}
-use Rattle.readings.specs.Ranges.{levelLow, levelHigh}
-use Rattle.readings.specs.Float.{levelShown}
-use Rattle.readings.specs.Told.{toldShown}
-use Rattle.readings.proofs.Back.{shown-back, refused-back}
+use Rattle.readings_rules.specs.Ranges.{levelLow, levelHigh}
+use Rattle.readings_rules.specs.Float.{levelShown}
+use Rattle.readings_rules.specs.Told.{toldShown}
+use Rattle.readings_rules.proofs.Back.{shown-back, refused-back}
 use borrow.Author.Needs.{needs}
 use Rattle.readings.proofs.level_read_back.Statement.{statement}
 use Rattle.readings.proofs.level_read_back.Tie as tie

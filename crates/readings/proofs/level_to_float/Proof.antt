@@ -2,7 +2,7 @@
 use mathlib.Core.Path.{ap, _∙_}
 use mir.Syntax.{w32}
 use mir.ValLaws.{toZ-ofZ}
-use Rattle.readings.specs.Float.{levelShown}
+use Rattle.readings_rules.specs.Float.{levelShown}
 use borrow.Author.Needs.{needs}
 use Rattle.readings.proofs.level_to_float.Statement.{statement}
 use Rattle.readings.proofs.level_to_float.Tie as tie

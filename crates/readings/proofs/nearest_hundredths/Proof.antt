@@ -9,7 +9,7 @@ use mir.Syntax.{w32}
 use mir.Val.{toZ}
 use mir.ValLaws.{toZ-pos, toZ-ofZ}
 use borrow.Author.Tests.{lt-leb, le-leb}
-use Rattle.readings.proofs.Fields.{small-no-nan, bits-small, bits-hundredths, negated, negated-fits}
+use Rattle.readings_rules.proofs.Fields.{small-no-nan, bits-small, bits-hundredths, negated, negated-fits}
 use borrow.Author.Needs.{needs}
 use Rattle.readings.proofs.nearest_hundredths.Statement.{statement}
 use Rattle.readings.proofs.nearest_hundredths.Tie as tie

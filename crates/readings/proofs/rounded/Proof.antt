@@ -4,8 +4,8 @@ use mathlib.Core.Bool.{Bool}
 use Prim.Native.Nat.{_+_, _-_, _*_, _/_, _%_, _^_}
 use native.Mathlib.Omega.{arith}
 use lib.Dec.{lit<}
-use Rattle.readings.specs.Code.{Near, inUnits}
-use Rattle.readings.proofs.Fields.{low-is-zero, half-small, up-code, down-code}
+use Rattle.readings_rules.specs.Code.{Near, inUnits}
+use Rattle.readings_rules.proofs.Fields.{low-is-zero, half-small, up-code, down-code}
 use borrow.Author.Needs.{needs}
 use Rattle.readings.proofs.rounded.Statement.{statement}
 use Rattle.readings.proofs.rounded.Tie as tie

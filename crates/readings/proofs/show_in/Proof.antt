@@ -9,9 +9,9 @@ use lib.Ieee.{Float, binary32, ofInt, ofBits, inFloat, div}
 use mir.Syntax.{w32}
 use mir.Val.{SFits, toZ, ofZ}
 use mir.ValLaws.{toZ-ofZ}
-use Rattle.readings.specs.Hundredths.{whereInRange}
-use Rattle.readings.specs.Float.{shown, floatOf}
-use Rattle.readings.proofs.Range.{in-float, in-size, product-fits}
+use Rattle.readings_rules.specs.Hundredths.{whereInRange}
+use Rattle.readings_rules.specs.Float.{shown, floatOf}
+use Rattle.readings_rules.proofs.Range.{in-float, in-size, product-fits}
 use Rattle.readings.proofs.show_in.Statement.{statement}
 use Rattle.readings.proofs.show_in.Tie as tie
 use Rattle.readings.proofs.show_in.Reads as reads

@@ -1,7 +1,7 @@
 -- `session_watch::heard_at` meets its contract: the floats at the place and after it.
 use mathlib.Core.Path.{ap, ap₂, _∙_}
 use native.Mathlib.Numerals.{add-one}
-use Rattle.readings.specs.declared.Burst.the-variants.{Heard}
+use Rattle.readings_rules.specs.declared.Burst.the-variants.{Heard}
 use Rattle.session_words.specs.Words.{wordsOf}
 use Rattle.session_values.specs.Values.{NUM}
 use borrow.Author.Needs.{needs}

@@ -5,7 +5,7 @@ use lib.ListN.{length}
 use lib.IntN.{pos}
 use mir.Syntax.{w32}
 use mir.ValLaws.{toZ-ofZ}
-use Rattle.readings.specs.declared.Burst.the-variants.{Missed}
+use Rattle.readings_rules.specs.declared.Burst.the-variants.{Missed}
 use Rattle.watch_rules.specs.Told.{Call, Called, start, move, file, ask, verdict}
 use Rattle.watch_rules.specs.Record.{called}
 use Rattle.session_words.specs.Words.{wordsOf}

@@ -6,8 +6,8 @@ use borrow.Author.Needs.{needs}
 use mir.Syntax.{w32}
 use mir.ValLaws.{toZ-ofZ}
 use borrow.Author.Tests.{not-true, not-false}
-use Rattle.readings.specs.Burst.{burstOf}
-use Rattle.readings.specs.Told.{toldBurst}
+use Rattle.readings_rules.specs.Burst.{burstOf}
+use Rattle.readings_rules.specs.Told.{toldBurst}
 use Rattle.sweep_rules.specs.Map.{channels}
 use Rattle.sweep_rules.specs.Record.{swept, visited, wellFormed}
 use Rattle.sweep_rules.specs.Filing.{filing, withHeard, withBurst}

@@ -9,7 +9,7 @@ use lib.Dec.{eqb}
 use mir.Syntax.{w32}
 use mir.Val.{ofZ, SFits}
 use mir.ValLaws.{toZ-ofZ}
-use Rattle.readings.specs.Ranges.{levelInRange}
+use Rattle.readings_rules.specs.Ranges.{levelInRange}
 use Rattle.sweep_rules.specs.Map.{bitAt, allBelow}
 use Rattle.sweep_rules.specs.Record.{isZero}
 use Rattle.sweep_rules.specs.Code.{levelFine, levelsFine}

@@ -7,7 +7,7 @@ use lib.Signed.{nonNeg}
 use mir.Syntax.{w32}
 use mir.Val.{Fits, SFits, toZ, ofZ}
 use mir.Facts.{toZ-ofZ}
-use Rattle.readings.specs.Ranges.{levelHighest}
+use Rattle.readings_rules.specs.Ranges.{levelHighest}
 use Rattle.watch.specs.Code.{belowTop}
 use Rattle.watch.proofs.Distance.{distance-is, distance-most}
 use Rattle.watch.proofs.below_top.Statement.{statement}

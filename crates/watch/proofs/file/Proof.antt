@@ -10,8 +10,8 @@ use lib.ListN.{getD}
 use mir.Facts.{toZ-ofZ}
 use Rattle.refusal.specs.declared.Refusal.the-variants.{NotWatched, ReadingOutOfRange}
 use Rattle.refusal.specs.Told.{Told, gives, refused}
-use Rattle.readings.specs.Burst.{BurstResult, heard, missed, burstOf}
-use Rattle.readings.specs.Told.{toldBurst}
+use Rattle.readings_rules.specs.Burst.{BurstResult, heard, missed, burstOf}
+use Rattle.readings_rules.specs.Told.{toldBurst}
 use Rattle.watch_rules.specs.declared.Watch.{Watch}
 use Rattle.watch_rules.specs.Limits.{room}
 use Rattle.watch_rules.specs.Told.{file, accepted}

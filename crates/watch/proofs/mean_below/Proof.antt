@@ -7,7 +7,7 @@ use lib.IntN.{ℤ, pos, _-ℤ_}
 use mir.Syntax.{w32}
 use mir.Val.{SFits, toZ, ofZ}
 use mir.Facts.{toZ-ofZ}
-use Rattle.readings.specs.Ranges.{levelHighest}
+use Rattle.readings_rules.specs.Ranges.{levelHighest}
 use Rattle.watch_rules.proofs.Depth.{depth-is}
 use Rattle.watch.specs.Code.{meanBelow}
 use Rattle.watch.proofs.Sums.{rounded-small, distance-fits, below-top-fits}

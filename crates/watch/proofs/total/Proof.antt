@@ -8,7 +8,7 @@ use lib.ListN.{take, getD}
 use mir.Syntax.{w32}
 use mir.Val.{SFits}
 use mir.Facts.{toZ-ofZ}
-use Rattle.readings.specs.Ranges.{levelInRange}
+use Rattle.readings_rules.specs.Ranges.{levelInRange}
 use Rattle.watch_rules.specs.Limits.{capacity}
 use Rattle.watch_rules.proofs.Depth.{depth-within}
 use Rattle.watch_rules.proofs.Laws.{take-none}

@@ -10,7 +10,7 @@ use lib.Dec.{ltb}
 use lib.ListN.{length, take, getD}
 use lib.Seq.{take-length}
 use Rattle.watch_rules.specs.Lists.{mem, every, distinct}
-use Rattle.readings.specs.Channels.{channelHighest, channelInRange}
+use Rattle.readings_rules.specs.Channels.{channelHighest, channelInRange}
 use Rattle.watch_rules.proofs.Laws.{byCase, or-true-right, or-false-left, or-false-right}
 use Rattle.watch_list.proofs.ListScan.{sound-more, every-fails, distinct-fails}
 use Rattle.watch_list.proofs.channels_ok.Statement.{statement}

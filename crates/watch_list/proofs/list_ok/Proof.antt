@@ -7,7 +7,7 @@ use lib.Dec.{eqb}
 use lib.ListN.{length}
 use lib.Seq.{take-length}
 use Rattle.watch_rules.specs.Lists.{mem, every, distinct, is}
-use Rattle.readings.specs.Channels.{channelInRange}
+use Rattle.readings_rules.specs.Channels.{channelInRange}
 use Rattle.watch_rules.specs.Limits.{listLimit}
 use Rattle.watch_list.specs.Code.{servingOf}
 use Rattle.watch_list.proofs.NewList.{list-parts, not-serving}

@@ -12,7 +12,7 @@ use Rattle.refusal.specs.declared.Refusal.the-variants.{ListFaulty, NotWatched}
 use Rattle.refusal.specs.Told.{gives}
 use Rattle.watch_rules.specs.declared.Watch.{Watch}
 use Rattle.watch_rules.specs.Lists.{every}
-use Rattle.readings.specs.Channels.{channelInRange}
+use Rattle.readings_rules.specs.Channels.{channelInRange}
 use Rattle.watch_rules.specs.Limits.{listLimit}
 use Rattle.watch_rules.specs.Told.{newList, accepted}
 use Rattle.watch_rules.specs.Rules.{serves, listSound}

@@ -9,7 +9,7 @@ use Rattle.refusal.specs.declared.Refusal.the-variants.{ChannelOutOfRange}
 use Rattle.refusal.specs.Told.{gives}
 use Rattle.watch_rules.specs.declared.Track.{Track}
 use Rattle.watch_rules.specs.declared.Watch.{Watch}
-use Rattle.readings.specs.Channels.{channelHighest}
+use Rattle.readings_rules.specs.Channels.{channelHighest}
 use Rattle.watch_rules.specs.Told.{start, accepted}
 use Rattle.watch_rules.specs.Record.{wellFormed}
 use Rattle.watch_rules.proofs.Calls.{called-unformed, called-refused, called-granted, refuse-now, refuse-later}

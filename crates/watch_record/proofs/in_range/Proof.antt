@@ -9,7 +9,7 @@ use lib.ListN.{length, drop, getD}
 use mir.Syntax.{w32}
 use mir.Val.{SFits}
 use mir.Facts.{toZ-ofZ}
-use Rattle.readings.specs.Ranges.{levelInRange}
+use Rattle.readings_rules.specs.Ranges.{levelInRange}
 use Rattle.watch_rules.specs.Limits.{capacity}
 use Rattle.watch_rules.specs.Lists.{every}
 use Rattle.watch_record.proofs.Scan.{every-place, every-past}

@@ -5,7 +5,7 @@ use native.Mathlib.Omega.{arith}
 use borrow.Author.Needs.{needs}
 use lib.Dec.{leb}
 use lib.ListN.{length, drop}
-use Rattle.readings.specs.Ranges.{levelInRange}
+use Rattle.readings_rules.specs.Ranges.{levelInRange}
 use Rattle.watch_rules.specs.declared.Track.{Track}
 use Rattle.watch_rules.specs.Limits.{capacity}
 use Rattle.watch_rules.specs.Lists.{every}

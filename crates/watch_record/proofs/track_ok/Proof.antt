@@ -5,7 +5,7 @@ use borrow.Author.Needs.{needs}
 use borrow.Author.Tests.{eq-eqb}
 use lib.Dec.{eqb, leb}
 use lib.ListN.{length}
-use Rattle.readings.specs.Channels.{channelHighest}
+use Rattle.readings_rules.specs.Channels.{channelHighest}
 use Rattle.watch_rules.specs.Limits.{depth, capacity}
 use Rattle.watch_rules.specs.Record.{levelsFine}
 use Rattle.watch_record.proofs.track_ok.Statement.{statement}

@@ -1,7 +1,7 @@
 -- The answer of `readings`, by its contract, in numbers.
 use mathlib.Core.Path.{ap, _∙_}
 use mir.Facts.{toZ-ofZ}
-use Rattle.readings.specs.Back.{levelBack}
+use Rattle.readings_rules.specs.Back.{levelBack}
 use Rattle.host_answers.specs.Answers.{hundredthsAnswer}
 use Rattle.royukezan.proofs.readings_calls.royukezan_level_read_back.Statement.{statement}
 use Rattle.royukezan.proofs.readings_calls.royukezan_level_read_back.Tie as tie

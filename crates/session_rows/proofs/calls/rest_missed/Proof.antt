@@ -2,7 +2,7 @@
 use mathlib.Core.Path.{_≡_, refl, sym, ap, _∙_}
 use borrow.Author.Needs.{needs}
 use native.Mathlib.Numerals.{add-one}
-use Rattle.readings.specs.declared.Burst.the-variants.{Missed}
+use Rattle.readings_rules.specs.declared.Burst.the-variants.{Missed}
 use Rattle.sweep_rules.specs.declared.Sweep.{Sweep}
 use Rattle.sweep_rules.specs.Filing.{filing, leaves}
 use Prim.Native.Nat.{ℕ, suc, _+_, _-_, _≤_}

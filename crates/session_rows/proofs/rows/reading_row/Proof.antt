@@ -3,8 +3,8 @@ use Prim.Native.Nat.{ℕ}
 use mathlib.Core.Path.{_≡_, ap, _∙_}
 use mir.Syntax.{w32}
 use mir.ValLaws.{toZ-ofZ}
-use Rattle.readings.specs.Hundredths.{levelOf, qualityOf}
-use Rattle.readings.specs.Float.{levelShown, qualityShown}
+use Rattle.readings_rules.specs.Hundredths.{levelOf, qualityOf}
+use Rattle.readings_rules.specs.Float.{levelShown, qualityShown}
 use Rattle.session_answers.specs.Lines.{hundredthsLine, floatLine}
 use Rattle.session_rows.specs.Calls.{only}
 use Rattle.session_words.specs.Words.{wordsOf}

@@ -4,8 +4,8 @@ use mathlib.Core.Path.{_≡_, ap, ap₂, _∙_}
 use mir.Syntax.{w32}
 use mir.ValLaws.{toZ-ofZ}
 use mathlib.Core.Bool.{cond}
-use Rattle.readings.specs.declared.Burst.the-variants.{Missed}
-use Rattle.readings.specs.Channels.{channelInRange}
+use Rattle.readings_rules.specs.declared.Burst.the-variants.{Missed}
+use Rattle.readings_rules.specs.Channels.{channelInRange}
 use Rattle.session_answers.specs.Lines.{nextLine, countsLine}
 use Rattle.session_rows.specs.Calls.{only, accepts, withSweep, sweepFiled, outcomeSet, chosen, malformed}
 use Rattle.session_words.specs.Words.{wordsOf}

@@ -10,12 +10,12 @@ use lib.Dec.{T, ltb, leb→le, le→leb, eqb}
 use lib.IntN.{ℤ, pos, negsuc, negℤ, negℤ-negℤ, natAbs, subℕ, _+ℤ_, _-ℤ_}
 use lib.Signed.{leZ, leZ-yes}
 use lib.Ieee.Fits.{and-i, eq→eqb}
-use Rattle.readings.specs.Rounding.{distance, NearestLower, nearestLower}
-use Rattle.readings.specs.Hundredths.{signed}
-use Rattle.readings.specs.Code.{Near}
-use Rattle.readings.specs.Claims.{RoundingRule}
-use Rattle.readings.proofs.Near.{near-is, near-size, sizeOf, no-multiple}
-use Rattle.readings.proofs.Signs.{isNeg, signed-is, scaled, neg-neg, pos-neg}
+use Rattle.readings_rules.specs.Rounding.{distance, NearestLower, nearestLower}
+use Rattle.readings_rules.specs.Hundredths.{signed}
+use Rattle.readings_rules.specs.Code.{Near}
+use Rattle.readings_rules.specs.Claims.{RoundingRule}
+use Rattle.readings_rules.proofs.Near.{near-is, near-size, sizeOf, no-multiple}
+use Rattle.readings_rules.proofs.Signs.{isNeg, signed-is, scaled, neg-neg, pos-neg}
 
 -- ---- the distance of two whole numbers by signs and sizes
 abbrev pub gap : ℕ → ℕ → ℕ

@@ -3,10 +3,10 @@ use mathlib.Core.Path.{_≡_}
 use mathlib.Core.Bool.{true}
 use lib.IntN.{ℤ}
 use Rattle.refusal.specs.Told.{Told, refused, gives}
-use Rattle.readings.specs.declared.Burst.{Burst}
-use Rattle.readings.specs.declared.Burst.the-variants.{Heard, Missed}
-use Rattle.readings.specs.Ranges.{levelInRange, qualityInRange}
-use Rattle.readings.specs.Hundredths.{levelOf, qualityOf}
+use Rattle.readings_rules.specs.declared.Burst.{Burst}
+use Rattle.readings_rules.specs.declared.Burst.the-variants.{Heard, Missed}
+use Rattle.readings_rules.specs.Ranges.{levelInRange, qualityInRange}
+use Rattle.readings_rules.specs.Hundredths.{levelOf, qualityOf}
 
 -- a burst in hundredths: heard, with a level and a quality, or missed with nothing
 pub data BurstResult : Type 0 where

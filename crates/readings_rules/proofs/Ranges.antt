@@ -8,8 +8,8 @@ use lib.Signed.{leZ, leZ-yes}
 use lib.Ieee.Bits.{is-true}
 use lib.Ieee.Fits.{and-i, and-l, and-r}
 use borrow.Author.Tests.{leb-true, le-leb}
-use Rattle.readings.specs.Ranges.{inHundredths, levelLow, levelHigh, qualityLow, qualityHigh, inRange}
-use Rattle.readings.specs.Claims.{Between, RangeRule}
+use Rattle.readings_rules.specs.Ranges.{inHundredths, levelLow, levelHigh, qualityLow, qualityHigh, inRange}
+use Rattle.readings_rules.specs.Claims.{Between, RangeRule}
 
 module _ (low high h : ℤ) where
   abbrev bottom : ℤ

@@ -6,8 +6,8 @@ use lib.Signed.{leZ}
 use lib.Ieee.{Float, nan, inf, fin, up, down}
 use Rattle.refusal.specs.declared.Refusal.the-variants.{ReadingOutOfRange}
 use Rattle.refusal.specs.Told.{Told, refusedFor, gives}
-use Rattle.readings.specs.Ranges.{levelLow, levelHigh, qualityLow, qualityHigh}
-use Rattle.readings.specs.Rounding.{nearestLower}
+use Rattle.readings_rules.specs.Ranges.{levelLow, levelHigh, qualityLow, qualityHigh}
+use Rattle.readings_rules.specs.Rounding.{nearestLower}
 
 -- a size with a sign; true is minus
 abbrev pub signed : Bool → ℕ → ℤ

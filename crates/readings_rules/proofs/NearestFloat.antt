@@ -19,18 +19,18 @@ use lib.Ieee.Digits.{size-reaches, back}
 use lib.Ieee.Fits.{down-pos, and-l, and-r, div-fits}
 use lib.Ieee.Exact.{HasValue}
 use lib.Ieee.Nearest.{closest}
-use Rattle.readings.specs.Ranges.{inHundredths, inRange, levelLow, levelHigh, qualityLow, qualityHigh}
-use Rattle.readings.specs.Rounding.{distance}
-use Rattle.readings.specs.Hundredths.{signed, numerator}
-use Rattle.readings.specs.Float.{floatOf, shown}
-use Rattle.readings.specs.Claims.{Between, Exactly, plus, minus, awayFrom, ShowsNearest, Shows, ShownRule}
-use Rattle.readings.proofs.Ranges.{in-words, by-words}
-use Rattle.readings.proofs.Conversion.{refused-outside, gives-inside, exactly}
-use Rattle.readings.proofs.Fields.{times}
-use Rattle.readings.proofs.Signs.{isNeg, signed-is, scaled, zero-factor}
-use Rattle.readings.proofs.Range.{in-size}
-use Rattle.readings.proofs.Rule.{gap, away, byCase, away-is, steps-apart}
-use Rattle.readings.proofs.Quotient.{dropped, keeps, grid, dropped-le, regroup, whole-step, round-value, float-is}
+use Rattle.readings_rules.specs.Ranges.{inHundredths, inRange, levelLow, levelHigh, qualityLow, qualityHigh}
+use Rattle.readings_rules.specs.Rounding.{distance}
+use Rattle.readings_rules.specs.Hundredths.{signed, numerator}
+use Rattle.readings_rules.specs.Float.{floatOf, shown}
+use Rattle.readings_rules.specs.Claims.{Between, Exactly, plus, minus, awayFrom, ShowsNearest, Shows, ShownRule}
+use Rattle.readings_rules.proofs.Ranges.{in-words, by-words}
+use Rattle.readings_rules.proofs.Conversion.{refused-outside, gives-inside, exactly}
+use Rattle.readings_rules.proofs.Fields.{times}
+use Rattle.readings_rules.proofs.Signs.{isNeg, signed-is, scaled, zero-factor}
+use Rattle.readings_rules.proofs.Range.{in-size}
+use Rattle.readings_rules.proofs.Rule.{gap, away, byCase, away-is, steps-apart}
+use Rattle.readings_rules.proofs.Quotient.{dropped, keeps, grid, dropped-le, regroup, whole-step, round-value, float-is}
 
 -- ---- the nearest whole number is within less than a half, where there is no tie
 abbrev Close : ℕ → ℕ → ℕ → Type 0

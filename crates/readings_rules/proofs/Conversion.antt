@@ -9,11 +9,11 @@ use lib.Ieee.{Float, nan, inf, fin, up, down}
 use lib.Ieee.Fits.{down-pos, and-i, and-l, and-r}
 use Rattle.refusal.specs.Told.{gives, refused}
 use Rattle.refusal.proofs.OneToOne.{gives-refused}
-use Rattle.readings.specs.Ranges.{levelLow, levelHigh, qualityLow, qualityHigh}
-use Rattle.readings.specs.Rounding.{NearestLower}
-use Rattle.readings.specs.Hundredths.{numerator, within, hundredthsOf, whereInRange, converted}
-use Rattle.readings.specs.Claims.{RefusedOutside, Exactly, plus, minus, Within, Converts, ConversionRule}
-use Rattle.readings.proofs.Rule.{roundingRule}
+use Rattle.readings_rules.specs.Ranges.{levelLow, levelHigh, qualityLow, qualityHigh}
+use Rattle.readings_rules.specs.Rounding.{NearestLower}
+use Rattle.readings_rules.specs.Hundredths.{numerator, within, hundredthsOf, whereInRange, converted}
+use Rattle.readings_rules.specs.Claims.{RefusedOutside, Exactly, plus, minus, Within, Converts, ConversionRule}
+use Rattle.readings_rules.proofs.Rule.{roundingRule}
 
 -- ---- values where a test holds: refused with 1 exactly where its words do not hold
 

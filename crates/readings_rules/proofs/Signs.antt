@@ -8,7 +8,7 @@ use lib.Arith.{le-zero}
 use lib.IntN.{ℤ, pos, negsuc, negℤ, natAbs, _*ℤ_}
 use lib.Signed.{leZ}
 use lib.Ieee.Fits.{and-i, and-l, and-r, eq→eqb}
-use Rattle.readings.specs.Hundredths.{signed}
+use Rattle.readings_rules.specs.Hundredths.{signed}
 
 and-false : (a : Bool) → (a && false) ≡ false
 and-false true = refl

@@ -2,13 +2,13 @@
 use lib.IntN.{ℤ}
 use lib.Ieee.{Float}
 use Rattle.refusal.specs.Told.{Told, refusedFor, gives}
-use Rattle.readings.specs.declared.Hundredths.{Hundredths}
-use Rattle.readings.specs.declared.Hundredths.the-variants as hundredths
-use Rattle.readings.specs.declared.Shown.{Shown}
-use Rattle.readings.specs.declared.Shown.the-variants as shown
-use Rattle.readings.specs.declared.BurstHundredths.{BurstHundredths}
-use Rattle.readings.specs.declared.BurstHundredths.the-variants.{Heard, Missed, Refused}
-use Rattle.readings.specs.Burst.{BurstResult, heard, missed}
+use Rattle.readings_rules.specs.declared.Hundredths.{Hundredths}
+use Rattle.readings_rules.specs.declared.Hundredths.the-variants as hundredths
+use Rattle.readings_rules.specs.declared.Shown.{Shown}
+use Rattle.readings_rules.specs.declared.Shown.the-variants as shown
+use Rattle.readings_rules.specs.declared.BurstHundredths.{BurstHundredths}
+use Rattle.readings_rules.specs.declared.BurstHundredths.the-variants.{Heard, Missed, Refused}
+use Rattle.readings_rules.specs.Burst.{BurstResult, heard, missed}
 
 abbrev pub toldHundredths : Hundredths → Told ℤ
 toldHundredths (hundredths.Value h) = gives h

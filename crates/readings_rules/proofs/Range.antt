@@ -17,9 +17,9 @@ use lib.Ieee.Bits.{is-true}
 use lib.Ieee.Fits.{down-pos, and-l, and-r, eq→eqb}
 use Rattle.refusal.specs.declared.Refusal.the-variants.{ReadingOutOfRange}
 use Rattle.refusal.specs.Told.{gives, refusedFor}
-use Rattle.readings.specs.Hundredths.{signed, within, converted, hundredthsOf, whereInRange}
-use Rattle.readings.specs.Code.{small}
-use Rattle.readings.proofs.Signs.{neg-neg, pos-neg, isNeg, order, by-size, zero-factor}
+use Rattle.readings_rules.specs.Hundredths.{signed, within, converted, hundredthsOf, whereInRange}
+use Rattle.readings_rules.specs.Code.{small}
+use Rattle.readings_rules.proofs.Signs.{neg-neg, pos-neg, isNeg, order, by-size, zero-factor}
 
 -- ---- a float's order of two sizes with signs is that of the whole numbers
 same-test : (a b : Bool) → (T a → T b) → (T b → T a) → a ≡ b

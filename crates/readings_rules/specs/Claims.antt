@@ -12,21 +12,21 @@ use Rattle.refusal.specs.declared.Refusal.{Refusal}
 use Rattle.refusal.specs.Number.{numberOf}
 use Rattle.refusal.specs.Told.{Told, refused, gives}
 use Rattle.refusal.specs.Claims.{OneToOne}
-use Rattle.readings.specs.declared.Reading.{Reading}
-use Rattle.readings.specs.declared.Burst.{Burst}
-use Rattle.readings.specs.declared.Burst.the-variants as burst
-use Rattle.readings.specs.declared.Hundredths.the-variants as hundredths
-use Rattle.readings.specs.declared.Shown.the-variants as shown
-use Rattle.readings.specs.declared.ReadingHundredths.{ReadingHundredths}
-use Rattle.readings.specs.declared.BurstHundredths.the-variants as result
-use Rattle.readings.specs.Ranges.{levelInRange, qualityInRange}
-use Rattle.readings.specs.Channels.{channelHighest, channelInRange}
-use Rattle.readings.specs.Rounding.{distance, NearestLower, nearestLower}
-use Rattle.readings.specs.Hundredths.{levelOf, qualityOf}
-use Rattle.readings.specs.Float.{levelShown, qualityShown}
-use Rattle.readings.specs.Back.{levelBack, qualityBack}
-use Rattle.readings.specs.Burst.{heard, missed, burstOf}
-use Rattle.readings.specs.Told.{toldHundredths, toldShown, toldBurst}
+use Rattle.readings_rules.specs.declared.Reading.{Reading}
+use Rattle.readings_rules.specs.declared.Burst.{Burst}
+use Rattle.readings_rules.specs.declared.Burst.the-variants as burst
+use Rattle.readings_rules.specs.declared.Hundredths.the-variants as hundredths
+use Rattle.readings_rules.specs.declared.Shown.the-variants as shown
+use Rattle.readings_rules.specs.declared.ReadingHundredths.{ReadingHundredths}
+use Rattle.readings_rules.specs.declared.BurstHundredths.the-variants as result
+use Rattle.readings_rules.specs.Ranges.{levelInRange, qualityInRange}
+use Rattle.readings_rules.specs.Channels.{channelHighest, channelInRange}
+use Rattle.readings_rules.specs.Rounding.{distance, NearestLower, nearestLower}
+use Rattle.readings_rules.specs.Hundredths.{levelOf, qualityOf}
+use Rattle.readings_rules.specs.Float.{levelShown, qualityShown}
+use Rattle.readings_rules.specs.Back.{levelBack, qualityBack}
+use Rattle.readings_rules.specs.Burst.{heard, missed, burstOf}
+use Rattle.readings_rules.specs.Told.{toldHundredths, toldShown, toldBurst}
 
 -- ---- the ranges
 

@@ -15,9 +15,9 @@ use lib.Ieee.Exact.{HasValue, units-val}
 use lib.Ieee.Nearest.{closest}
 use lib.Ieee.Scale.{round-same}
 use lib.Ieee.Back.{round-whole}
-use Rattle.readings.specs.Float.{floatOf}
-use Rattle.readings.specs.Code.{Near}
-use Rattle.readings.proofs.Signs.{isNeg}
+use Rattle.readings_rules.specs.Float.{floatOf}
+use Rattle.readings_rules.specs.Code.{Near}
+use Rattle.readings_rules.proofs.Signs.{isNeg}
 
 -- ---- the nearest whole number is within a half
 abbrev Err : ℕ → ℕ → ℕ → Type 0

@@ -2,8 +2,8 @@
 use lib.IntN.{ℤ, pos}
 use lib.Ieee.{Float, binary32, ofInt, div}
 use Rattle.refusal.specs.Told.{Told}
-use Rattle.readings.specs.Ranges.{levelLow, levelHigh, qualityLow, qualityHigh, inRange}
-use Rattle.readings.specs.Hundredths.{whereInRange}
+use Rattle.readings_rules.specs.Ranges.{levelLow, levelHigh, qualityLow, qualityHigh, inRange}
+use Rattle.readings_rules.specs.Hundredths.{whereInRange}
 
 -- the float h divided by 100, rounded once: `div` rounds the exact quotient to the nearest single float, as `Claims.ShownRule` says in the paper's words
 unfoldable pub floatOf : ℤ → Float

@@ -7,9 +7,9 @@ use native.Mathlib.Omega.{arith}
 use lib.Dec.{T, ltb, ltb→lt, nltb→le}
 use lib.IntN.{ℤ, pos, negsuc, negℤ, negℤ-negℤ, _+ℤ_, _-ℤ_, _*ℤ_}
 use lib.Signed.{shrZ}
-use Rattle.readings.specs.Rounding.{nearestLower}
-use Rattle.readings.specs.Hundredths.{signed}
-use Rattle.readings.specs.Code.{Near}
+use Rattle.readings_rules.specs.Rounding.{nearestLower}
+use Rattle.readings_rules.specs.Hundredths.{signed}
+use Rattle.readings_rules.specs.Code.{Near}
 
 -- ---- it is what `nearestLower` computes
 quot : (a d k : ℕ) → 2 * (k * d) ≤ a → a < 2 * (k * d) + 2 * d → a / (2 * d) ≡ k

@@ -15,17 +15,17 @@ use lib.Ieee.Exact.{HasValue}
 use lib.Arith.{le-zero}
 use Rattle.refusal.specs.Told.{gives, refused}
 use Rattle.refusal.proofs.OneToOne.{gives-refused}
-use Rattle.readings.specs.Ranges.{inHundredths, inRange, levelLow, levelHigh, qualityLow, qualityHigh, levelInRange, qualityInRange}
-use Rattle.readings.specs.Hundredths.{signed, within, converted, hundredthsOf, whereInRange, levelOf, qualityOf}
-use Rattle.readings.specs.Float.{floatOf, shown}
-use Rattle.readings.specs.Claims.{Between, ReadsBack, ReadBack}
-use Rattle.readings.proofs.Ranges.{in-words, by-words}
-use Rattle.readings.proofs.Conversion.{refused-outside, inside-gives, gives-inside}
-use Rattle.readings.proofs.Fields.{near-hundredths}
-use Rattle.readings.proofs.Signs.{isNeg, signed-is, order, by-size}
-use Rattle.readings.proofs.Range.{in-size}
-use Rattle.readings.proofs.NearestFloat.{float-single}
-use Rattle.readings.proofs.Quotient.{grid, near-grid, grid-le, grid-ge, round-value, float-is}
+use Rattle.readings_rules.specs.Ranges.{inHundredths, inRange, levelLow, levelHigh, qualityLow, qualityHigh, levelInRange, qualityInRange}
+use Rattle.readings_rules.specs.Hundredths.{signed, within, converted, hundredthsOf, whereInRange, levelOf, qualityOf}
+use Rattle.readings_rules.specs.Float.{floatOf, shown}
+use Rattle.readings_rules.specs.Claims.{Between, ReadsBack, ReadBack}
+use Rattle.readings_rules.proofs.Ranges.{in-words, by-words}
+use Rattle.readings_rules.proofs.Conversion.{refused-outside, inside-gives, gives-inside}
+use Rattle.readings_rules.proofs.Fields.{near-hundredths}
+use Rattle.readings_rules.proofs.Signs.{isNeg, signed-is, order, by-size}
+use Rattle.readings_rules.proofs.Range.{in-size}
+use Rattle.readings_rules.proofs.NearestFloat.{float-single}
+use Rattle.readings_rules.proofs.Quotient.{grid, near-grid, grid-le, grid-ge, round-value, float-is}
 
 -- ---- converted again
 pub hundredths-back : (h : ℤ) → natAbs h < 65536 → hundredthsOf (floatOf h) ≡ h

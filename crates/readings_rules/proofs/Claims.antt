@@ -4,15 +4,15 @@ use lib.IntN.{ℤ}
 use lib.Ieee.{Float}
 use Rattle.refusal.specs.Told.{Told, gives, refused}
 use Rattle.refusal.proofs.OneToOne.{by-way-back, refusalOf, refusal-back}
-use Rattle.readings.specs.declared.Hundredths.{Hundredths}
-use Rattle.readings.specs.declared.Hundredths.the-variants as hundredths
-use Rattle.readings.specs.declared.Shown.{Shown}
-use Rattle.readings.specs.declared.Shown.the-variants as shown
-use Rattle.readings.specs.declared.BurstHundredths.{BurstHundredths}
-use Rattle.readings.specs.declared.BurstHundredths.the-variants as burst
-use Rattle.readings.specs.Burst.{BurstResult, heard, missed}
-use Rattle.readings.specs.Told.{toldHundredths, toldShown, toldBurst}
-use Rattle.readings.specs.Claims.{AnswersTold, AnswersDiffer}
+use Rattle.readings_rules.specs.declared.Hundredths.{Hundredths}
+use Rattle.readings_rules.specs.declared.Hundredths.the-variants as hundredths
+use Rattle.readings_rules.specs.declared.Shown.{Shown}
+use Rattle.readings_rules.specs.declared.Shown.the-variants as shown
+use Rattle.readings_rules.specs.declared.BurstHundredths.{BurstHundredths}
+use Rattle.readings_rules.specs.declared.BurstHundredths.the-variants as burst
+use Rattle.readings_rules.specs.Burst.{BurstResult, heard, missed}
+use Rattle.readings_rules.specs.Told.{toldHundredths, toldShown, toldBurst}
+use Rattle.readings_rules.specs.Claims.{AnswersTold, AnswersDiffer}
 
 pub answersTold : AnswersTold
 answersTold = record {

@@ -14,19 +14,19 @@ use lib.Ieee.Bits.{is-true}
 use lib.Ieee.Fits.{down-pos, and-i, and-l, and-r}
 use Rattle.refusal.specs.Told.{Told, gives, refused}
 use Rattle.refusal.proofs.OneToOne.{gives-refused}
-use Rattle.readings.specs.declared.Burst.{Burst}
-use Rattle.readings.specs.declared.Burst.the-variants.{Heard, Missed}
-use Rattle.readings.specs.declared.Reading.{Reading}
-use Rattle.readings.specs.Ranges.{inRange, levelLow, levelHigh, qualityLow, qualityHigh, levelInRange, qualityInRange}
-use Rattle.readings.specs.Hundredths.{signed, within, converted, hundredthsOf, levelOf, qualityOf}
-use Rattle.readings.specs.Burst.{BurstResult, heard, burstOf, bothOf, InRange}
-use Rattle.readings.specs.Code.{Near}
-use Rattle.readings.specs.Claims.{BurstRule, BurstInRange}
-use Rattle.readings.proofs.Ranges.{rangeRule}
-use Rattle.readings.proofs.Conversion.{gives-inside, converts}
-use Rattle.readings.proofs.Near.{near-size, sizeOf}
-use Rattle.readings.proofs.Fields.{hundredths-near}
-use Rattle.readings.proofs.Signs.{isNeg, order, by-size, zero-factor}
+use Rattle.readings_rules.specs.declared.Burst.{Burst}
+use Rattle.readings_rules.specs.declared.Burst.the-variants.{Heard, Missed}
+use Rattle.readings_rules.specs.declared.Reading.{Reading}
+use Rattle.readings_rules.specs.Ranges.{inRange, levelLow, levelHigh, qualityLow, qualityHigh, levelInRange, qualityInRange}
+use Rattle.readings_rules.specs.Hundredths.{signed, within, converted, hundredthsOf, levelOf, qualityOf}
+use Rattle.readings_rules.specs.Burst.{BurstResult, heard, burstOf, bothOf, InRange}
+use Rattle.readings_rules.specs.Code.{Near}
+use Rattle.readings_rules.specs.Claims.{BurstRule, BurstInRange}
+use Rattle.readings_rules.proofs.Ranges.{rangeRule}
+use Rattle.readings_rules.proofs.Conversion.{gives-inside, converts}
+use Rattle.readings_rules.proofs.Near.{near-size, sizeOf}
+use Rattle.readings_rules.proofs.Fields.{hundredths-near}
+use Rattle.readings_rules.proofs.Signs.{isNeg, order, by-size, zero-factor}
 
 -- ---- a heard burst by what its two floats tell, each refused with 1 or not at all
 

@@ -15,10 +15,10 @@ use lib.Ieee.{Float, nan, inf, fin, up, down, binary32, ofFields, ofBits, toBits
 use lib.Ieee.Bits.{ofBits-toBits}
 use lib.Ieee.Exact.{HasValue, odd-sign}
 use lib.Ieee.Fits.{down-pos}
-use Rattle.readings.specs.Rounding.{nearestLower}
-use Rattle.readings.specs.Hundredths.{signed, hundredthsOf}
-use Rattle.readings.specs.Code.{Near, inUnits, small}
-use Rattle.readings.proofs.Near.{near-is, near-same}
+use Rattle.readings_rules.specs.Rounding.{nearestLower}
+use Rattle.readings_rules.specs.Hundredths.{signed, hundredthsOf}
+use Rattle.readings_rules.specs.Code.{Near, inUnits, small}
+use Rattle.readings_rules.proofs.Near.{near-is, near-same}
 
 -- ---- any fraction that the float equals serves
 pub times : (s : Bool) (w : ℕ) → pos 100 *ℤ signed s w ≡ signed s (100 * w)
