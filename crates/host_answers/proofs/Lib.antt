@@ -1,3 +1,2 @@
--- `Rest`: the answers of a watch that a conversion leaves over. `Claims`: what a host finds fixes the library's answer.
+-- `Rest`: the answers of a watch that a conversion leaves over.
 mod Rest
-mod Claims

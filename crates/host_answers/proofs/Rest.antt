@@ -11,7 +11,7 @@ use Rattle.watch_rules.specs.declared.Answer.{Answer}
 use Rattle.watch_rules.specs.declared.Answer.the-variants.{Accepted, Refused, Levels, Wait, Stay, MoveTo}
 use Rattle.watch_rules.specs.Told.{told}
 use Rattle.watch_rules.proofs.Answer.{the-type}
-use Rattle.host_answers.specs.Answers.{acceptedNumber, refusalNumber, noLevels, levelsAnswer, noVerdict, verdictAnswer}
+use Rattle.host_rules.specs.Answers.{acceptedNumber, refusalNumber, noLevels, levelsAnswer, noVerdict, verdictAnswer}
 
 -- a key is among the keys, which computes
 abbrev among : List ℕ → ℕ → Bool

@@ -1,6 +1,4 @@
-// The answers of the library as C and Rust hosts find them: structs of numbers, of which the first is the refusal number, 0 for accepted; then
-// come the values, 0 when refused. A call that changes a record hands it back beside these. `specs/Answers.antt` has the rule. The calls
-// themselves stand in the crate `royukezan`.
+// Each answer of the library as a host finds it (the crate `host_rules` has the structs and the rule). The calls stand in the crate `royukezan`.
 ghost use mathlib.Core.Path.{_≡_};
 ghost use Rattle.refusal.specs.Told.{toldOutcome};
 ghost use Rattle.readings_rules.specs.Told.{toldHundredths, toldShown, toldBurst};
@@ -8,11 +6,22 @@ ghost use Rattle.sweep_rules.specs.Told.{toldNext, toldNumbers};
 ghost use Rattle.choice_rules.specs.Told.{toldChoice};
 ghost use Rattle.watch_rules.specs.Told.{told, toldHanded};
 ghost use Rattle.power_rules.specs.Told.{toldAnswer};
-ghost use Rattle.host_answers.specs.Claims.{NothingLost};
-ghost use Rattle.host_answers.specs.Answers.{refusalNumber, hundredthsAnswer, floatAnswer, burstAnswer, sweepBeside, nextAnswer, countsAnswer, choiceAnswer, watchOutcome, levelsAnswer, verdictAnswer, powerBeside, sentAnswer, sentBeside};
+ghost use Rattle.host_rules.specs.Answers.{refusalNumber, hundredthsAnswer, floatAnswer, burstAnswer, sweepBeside, nextAnswer, countsAnswer, choiceAnswer, watchOutcome, levelsAnswer, verdictAnswer, powerBeside, sentAnswer, sentBeside};
 use choice_rules::Choice;
 use choice_rules::SweepChoice;
-use power_rules::PowerRecord;
+pub use host_rules::BurstAnswer;
+pub use host_rules::ChoiceAnswer;
+pub use host_rules::CountsAnswer;
+pub use host_rules::FloatAnswer;
+pub use host_rules::HundredthsAnswer;
+pub use host_rules::LevelsAnswer;
+pub use host_rules::NextAnswer;
+pub use host_rules::PowerOutcome;
+pub use host_rules::SentAnswer;
+pub use host_rules::SentOutcome;
+pub use host_rules::SweepOutcome;
+pub use host_rules::VerdictAnswer;
+pub use host_rules::WatchOutcome;
 use power_rules::Stepped;
 use readings_rules::BurstHundredths;
 use readings_rules::Hundredths;
@@ -20,111 +29,10 @@ use readings_rules::Shown;
 use refusal::Outcome;
 use sweep_rules::NextChannel;
 use sweep_rules::Numbers;
-use sweep_rules::Sweep;
 use sweep_rules::SweepNext;
 use sweep_rules::SweepNumbers;
 use watch_rules::Answer;
 use watch_rules::Handed;
-use watch_rules::Watch;
-
-// A level or a quality in hundredths.
-#[repr(C)]
-pub struct HundredthsAnswer {
-    pub refusal: u32,
-    pub hundredths: i32,
-}
-
-// A level in dBm or a quality in dB.
-#[repr(C)]
-pub struct FloatAnswer {
-    pub refusal: u32,
-    pub value: f32,
-}
-
-// A heard burst in hundredths.
-#[repr(C)]
-pub struct BurstAnswer {
-    pub refusal: u32,
-    pub level: i32,
-    pub quality: i32,
-}
-
-// What a filing hands back.
-#[repr(C)]
-pub struct SweepOutcome {
-    pub refusal: u32,
-    pub sweep: Sweep,
-}
-
-// The next channel: A_CHANNEL, or DONE.
-#[repr(C)]
-pub struct NextAnswer {
-    pub refusal: u32,
-    pub next: u16,
-    pub channel: u16,
-}
-
-// The numbers of channels visited and heard.
-#[repr(C)]
-pub struct CountsAnswer {
-    pub refusal: u32,
-    pub visited: u32,
-    pub heard: u32,
-}
-
-// The choice: CAMP, READ or NO_BEAM, with the number of beams tried.
-#[repr(C)]
-pub struct ChoiceAnswer {
-    pub refusal: u32,
-    pub choice: u16,
-    pub channel: u16,
-    pub tried: u32,
-}
-
-// What a call that may change the watch hands back.
-#[repr(C)]
-pub struct WatchOutcome {
-    pub refusal: u32,
-    pub watch: Watch,
-}
-
-// What is asked of a channel: how many levels it has, and their mean.
-#[repr(C)]
-pub struct LevelsAnswer {
-    pub refusal: u32,
-    pub count: u32,
-    pub mean: i32,
-}
-
-// The verdict: WAIT, STAY, or MOVE to the channel.
-#[repr(C)]
-pub struct VerdictAnswer {
-    pub refusal: u32,
-    pub verdict: u16,
-    pub channel: u16,
-}
-
-// What a start or a test hands back.
-#[repr(C)]
-pub struct PowerOutcome {
-    pub refusal: u32,
-    pub power: PowerRecord,
-}
-
-// The codes to send.
-#[repr(C)]
-pub struct SentAnswer {
-    pub refusal: u32,
-    pub par: u32,
-    pub pan: u32,
-}
-
-// What a step hands back. Its first number is the answer's.
-#[repr(C)]
-pub struct SentOutcome {
-    pub answer: SentAnswer,
-    pub power: PowerRecord,
-}
 
 // The number of an accepted call.
 const ACCEPTED: u32 = 0;
@@ -399,8 +307,3 @@ pub fn sent_outcome(h: Stepped) -> SentOutcome
         power,
     }
 }
-
-// Nothing to run: its contract is what is claimed of the answers beyond the conversions, so that the check asks for its proof.
-pub fn claimed()
-    ensures { λ _. ⌜ NothingLost ⌝ }
-{}

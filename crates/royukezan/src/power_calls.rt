@@ -3,7 +3,7 @@
 ghost use mathlib.Core.Path.{_≡_};
 ghost use Rattle.power_rules.specs.declared.Decoded.the-variants.{Failed, Codes};
 ghost use Rattle.power_rules.specs.Calls.{started, tested, stepped};
-ghost use Rattle.host_answers.specs.Answers.{refusalNumber, powerOutcome, sentAnswer, sentOutcome};
+ghost use Rattle.host_rules.specs.Answers.{refusalNumber, powerOutcome, sentAnswer, sentOutcome};
 use host_answers::PowerOutcome;
 use host_answers::SentAnswer;
 use host_answers::SentOutcome;

@@ -5,7 +5,7 @@ ghost use Rattle.readings_rules.specs.Hundredths.{levelOf, qualityOf};
 ghost use Rattle.readings_rules.specs.Float.{levelShown, qualityShown};
 ghost use Rattle.readings_rules.specs.Back.{levelBack, qualityBack};
 ghost use Rattle.readings_rules.specs.Burst.{burstOf};
-ghost use Rattle.host_answers.specs.Answers.{hundredthsAnswer, floatAnswer, burstAnswer};
+ghost use Rattle.host_rules.specs.Answers.{hundredthsAnswer, floatAnswer, burstAnswer};
 use host_answers::BurstAnswer;
 use host_answers::FloatAnswer;
 use host_answers::HundredthsAnswer;

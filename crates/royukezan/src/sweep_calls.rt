@@ -6,7 +6,7 @@ ghost use Rattle.sweep_rules.specs.Filing.{filing, checking};
 ghost use Rattle.sweep_rules.specs.Next.{nextTold};
 ghost use Rattle.sweep_rules.specs.Counts.{countsTold};
 ghost use Rattle.choice_rules.specs.Choose.{choosing};
-ghost use Rattle.host_answers.specs.Answers.{refusalNumber, sweepOutcome, nextAnswer, countsAnswer, choiceAnswer};
+ghost use Rattle.host_rules.specs.Answers.{refusalNumber, sweepOutcome, nextAnswer, countsAnswer, choiceAnswer};
 use host_answers::ChoiceAnswer;
 use host_answers::CountsAnswer;
 use host_answers::NextAnswer;

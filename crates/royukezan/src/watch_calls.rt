@@ -3,7 +3,7 @@ ghost use mathlib.Core.Path.{_≡_};
 ghost use Rattle.readings_rules.specs.declared.Burst.the-variants.{Heard, Missed};
 ghost use Rattle.watch_rules.specs.Told.{Call};
 ghost use Rattle.watch_rules.specs.Record.{fresh as freshWatch, called, tested};
-ghost use Rattle.host_answers.specs.Answers.{refusalNumber, watchOutcome, levelsAnswer, verdictAnswer};
+ghost use Rattle.host_rules.specs.Answers.{refusalNumber, watchOutcome, levelsAnswer, verdictAnswer};
 use host_answers::LevelsAnswer;
 use host_answers::VerdictAnswer;
 use host_answers::WatchOutcome;

@@ -4,7 +4,7 @@ use lib.IntN.{ℤ}
 use mir.Facts.{toZ-ofZ}
 use Rattle.refusal.specs.Told.{gives}
 use Rattle.readings_rules.specs.Burst.{heard}
-use Rattle.host_answers.specs.Answers.{burstAnswer}
+use Rattle.host_rules.specs.Answers.{burstAnswer}
 use borrow.Author.Needs.{needs}
 use Rattle.host_answers.proofs.burst_answer.Statement.{statement}
 use Rattle.host_answers.proofs.burst_answer.Tie as tie

@@ -3,7 +3,7 @@ use mathlib.Core.Path.{ap}
 use lib.IntN.{ℤ}
 use mir.Facts.{toZ-ofZ}
 use Rattle.refusal.specs.Told.{gives}
-use Rattle.host_answers.specs.Answers.{hundredthsAnswer}
+use Rattle.host_rules.specs.Answers.{hundredthsAnswer}
 use borrow.Author.Needs.{needs}
 use Rattle.host_answers.proofs.hundredths_answer.Statement.{statement}
 use Rattle.host_answers.proofs.hundredths_answer.Tie as tie

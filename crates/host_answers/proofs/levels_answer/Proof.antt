@@ -4,7 +4,7 @@ use lib.IntN.{ℤ}
 use mir.Facts.{toZ-ofZ}
 use Rattle.refusal.specs.Told.{gives}
 use Rattle.watch_rules.specs.Told.{levels}
-use Rattle.host_answers.specs.Answers.{noLevels, levelsAnswer}
+use Rattle.host_rules.specs.Answers.{noLevels, levelsAnswer}
 use Rattle.host_answers.proofs.Rest.{not-levels}
 use borrow.Author.Needs.{needs}
 use Rattle.host_answers.proofs.levels_answer.Statement.{statement}

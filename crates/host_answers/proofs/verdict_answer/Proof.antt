@@ -1,6 +1,6 @@
 -- A verdict is one of three; every other answer is none.
 use mathlib.Core.Path.{ap, _∙_}
-use Rattle.host_answers.specs.Answers.{noVerdict}
+use Rattle.host_rules.specs.Answers.{noVerdict}
 use Rattle.host_answers.proofs.Rest.{not-verdict}
 use borrow.Author.Needs.{needs}
 use Rattle.host_answers.proofs.verdict_answer.Statement.{statement}

@@ -7,10 +7,10 @@ use Rattle.power_rules.proofs.PowerParameters as P
 use Rattle.power_rules.proofs.PowerParameters.Laws as P′
 use Rattle.power_rules.proofs.PowerRecord as R
 use Rattle.power_rules.proofs.PowerRecord.Laws as R′
-use Rattle.host_answers.proofs.SentAnswer as A
-use Rattle.host_answers.proofs.SentAnswer.Laws as A′
-use Rattle.host_answers.proofs.SentOutcome as S
-use Rattle.host_answers.proofs.SentOutcome.Laws as S′
+use Rattle.host_rules.proofs.SentAnswer as A
+use Rattle.host_rules.proofs.SentAnswer.Laws as A′
+use Rattle.host_rules.proofs.SentOutcome as S
+use Rattle.host_rules.proofs.SentOutcome.Laws as S′
 
 abbrev pub parameters : Arg
 parameters = struct-arg P.the-type P′.the-laws P′.the-plain (λ x. tt) (λ x f. refl)

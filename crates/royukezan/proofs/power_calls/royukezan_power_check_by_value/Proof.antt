@@ -1,7 +1,7 @@
 -- The record and the answer of `power`, by its contract, in numbers.
 use mathlib.Core.Path.{ap, _∙_}
-use Rattle.host_answers.specs.declared.PowerOutcome.{PowerOutcome}
-use Rattle.host_answers.specs.Answers.{refusalNumber}
+use Rattle.host_rules.specs.declared.PowerOutcome.{PowerOutcome}
+use Rattle.host_rules.specs.Answers.{refusalNumber}
 use Rattle.royukezan.proofs.power_calls.royukezan_power_check_by_value.Statement.{statement}
 use Rattle.royukezan.proofs.power_calls.royukezan_power_check_by_value.Tie as tie
 

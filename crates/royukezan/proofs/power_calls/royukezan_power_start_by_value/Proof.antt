@@ -1,6 +1,6 @@
 -- The record and the answer of `power`, by its contract, in numbers.
 use mathlib.Core.Path.{ap₂, _∙_}
-use Rattle.host_answers.specs.Answers.{powerBeside}
+use Rattle.host_rules.specs.Answers.{powerBeside}
 use Rattle.royukezan.proofs.power_calls.royukezan_power_start_by_value.Statement.{statement}
 use Rattle.royukezan.proofs.power_calls.royukezan_power_start_by_value.Tie as tie
 

@@ -4,7 +4,7 @@ use mir.Facts.{toZ-ofZ}
 use lib.IntN.{ℤ}
 use Rattle.power_rules.specs.declared.Decoded.the-variants.{Codes}
 use Rattle.power_rules.specs.Calls.{stepped}
-use Rattle.host_answers.specs.Answers.{sentBeside, sentOutcome}
+use Rattle.host_rules.specs.Answers.{sentBeside, sentOutcome}
 use Rattle.royukezan.proofs.power_calls.royukezan_power_step_decoded_by_value.Statement.{statement}
 use Rattle.royukezan.proofs.power_calls.royukezan_power_step_decoded_by_value.Tie as tie
 

@@ -3,7 +3,7 @@ use mathlib.Core.List.{[], _∷_}
 use mir.Syntax.{w32}
 use Rattle.power_rules.specs.declared.Decoded.the-variants.{Failed}
 use Rattle.power_rules.specs.Calls.{stepped}
-use Rattle.host_answers.specs.Answers.{sentOutcome}
+use Rattle.host_rules.specs.Answers.{sentOutcome}
 use Rattle.lent.proofs.Lends.{sint-arg, stands-equal}
 use Rattle.royukezan.proofs.power_calls.Lent.{parameters, sends}
 use Rattle.royukezan.proofs.power_calls.royukezan_power_step_failed_by_value.Symbol as callee

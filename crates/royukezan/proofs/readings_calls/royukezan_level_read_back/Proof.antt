@@ -2,7 +2,7 @@
 use mathlib.Core.Path.{ap, _∙_}
 use mir.Facts.{toZ-ofZ}
 use Rattle.readings_rules.specs.Back.{levelBack}
-use Rattle.host_answers.specs.Answers.{hundredthsAnswer}
+use Rattle.host_rules.specs.Answers.{hundredthsAnswer}
 use Rattle.royukezan.proofs.readings_calls.royukezan_level_read_back.Statement.{statement}
 use Rattle.royukezan.proofs.readings_calls.royukezan_level_read_back.Tie as tie
 

@@ -2,7 +2,7 @@
 use mathlib.Core.Path.{ap, _∙_}
 use mir.Facts.{toZ-ofZ}
 use Rattle.readings_rules.specs.Float.{qualityShown}
-use Rattle.host_answers.specs.Answers.{floatAnswer}
+use Rattle.host_rules.specs.Answers.{floatAnswer}
 use Rattle.royukezan.proofs.readings_calls.royukezan_quality_to_float.Statement.{statement}
 use Rattle.royukezan.proofs.readings_calls.royukezan_quality_to_float.Tie as tie
 

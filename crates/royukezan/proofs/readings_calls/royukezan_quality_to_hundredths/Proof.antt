@@ -1,6 +1,6 @@
 -- The answer of `readings`, by its contract, in numbers.
 use mathlib.Core.Path.{ap, _∙_}
-use Rattle.host_answers.specs.Answers.{hundredthsAnswer}
+use Rattle.host_rules.specs.Answers.{hundredthsAnswer}
 use Rattle.royukezan.proofs.readings_calls.royukezan_quality_to_hundredths.Statement.{statement}
 use Rattle.royukezan.proofs.readings_calls.royukezan_quality_to_hundredths.Tie as tie
 

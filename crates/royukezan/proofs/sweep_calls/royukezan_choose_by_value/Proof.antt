@@ -3,7 +3,7 @@ use mathlib.Core.Path.{ap, _∙_}
 use mir.Facts.{toZ-ofZ}
 use lib.IntN.{ℤ}
 use Rattle.choice_rules.specs.Choose.{choosing}
-use Rattle.host_answers.specs.Answers.{choiceAnswer}
+use Rattle.host_rules.specs.Answers.{choiceAnswer}
 use Rattle.royukezan.proofs.sweep_calls.royukezan_choose_by_value.Statement.{statement}
 use Rattle.royukezan.proofs.sweep_calls.royukezan_choose_by_value.Tie as tie
 

@@ -1,7 +1,7 @@
 -- The answer of `sweep`, by its contract, in numbers.
 use mathlib.Core.Path.{ap, _∙_}
-use Rattle.host_answers.specs.declared.SweepOutcome.{SweepOutcome}
-use Rattle.host_answers.specs.Answers.{refusalNumber}
+use Rattle.host_rules.specs.declared.SweepOutcome.{SweepOutcome}
+use Rattle.host_rules.specs.Answers.{refusalNumber}
 use Rattle.royukezan.proofs.sweep_calls.royukezan_sweep_check_by_value.Statement.{statement}
 use Rattle.royukezan.proofs.sweep_calls.royukezan_sweep_check_by_value.Tie as tie
 

@@ -1,6 +1,6 @@
 -- The answer of `sweep`, by its contract, in numbers.
 use mathlib.Core.Path.{ap₂, _∙_}
-use Rattle.host_answers.specs.Answers.{sweepBeside}
+use Rattle.host_rules.specs.Answers.{sweepBeside}
 use Rattle.royukezan.proofs.sweep_calls.royukezan_sweep_file_missed_by_value.Statement.{statement}
 use Rattle.royukezan.proofs.sweep_calls.royukezan_sweep_file_missed_by_value.Tie as tie
 

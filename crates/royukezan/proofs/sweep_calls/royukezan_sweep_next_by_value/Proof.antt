@@ -1,6 +1,6 @@
 -- The answer of `sweep`, by its contract, in numbers.
 use mathlib.Core.Path.{ap, _∙_}
-use Rattle.host_answers.specs.Answers.{nextAnswer}
+use Rattle.host_rules.specs.Answers.{nextAnswer}
 use Rattle.royukezan.proofs.sweep_calls.royukezan_sweep_next_by_value.Statement.{statement}
 use Rattle.royukezan.proofs.sweep_calls.royukezan_sweep_next_by_value.Tie as tie
 

@@ -1,7 +1,7 @@
 -- The answer of `watch`, by its contract, in numbers.
 use mathlib.Core.Path.{ap, _∙_}
 use Rattle.watch_rules.specs.Told.{Called}
-use Rattle.host_answers.specs.Answers.{levelsAnswer}
+use Rattle.host_rules.specs.Answers.{levelsAnswer}
 use Rattle.royukezan.proofs.watch_calls.royukezan_watch_ask_by_value.Statement.{statement}
 use Rattle.royukezan.proofs.watch_calls.royukezan_watch_ask_by_value.Tie as tie
 

@@ -1,8 +1,8 @@
 -- The answer of `watch`, by its contract, in numbers.
 use mathlib.Core.Path.{ap, _∙_}
 use Rattle.watch_rules.specs.Told.{Called}
-use Rattle.host_answers.specs.declared.WatchOutcome.{WatchOutcome}
-use Rattle.host_answers.specs.Answers.{refusalNumber}
+use Rattle.host_rules.specs.declared.WatchOutcome.{WatchOutcome}
+use Rattle.host_rules.specs.Answers.{refusalNumber}
 use Rattle.royukezan.proofs.watch_calls.royukezan_watch_check_by_value.Statement.{statement}
 use Rattle.royukezan.proofs.watch_calls.royukezan_watch_check_by_value.Tie as tie
 

@@ -1,6 +1,6 @@
 -- The answer of `watch`, by its contract, in numbers.
 use mathlib.Core.Path.{ap, _∙_}
-use Rattle.host_answers.specs.Answers.{watchOutcome}
+use Rattle.host_rules.specs.Answers.{watchOutcome}
 use Rattle.royukezan.proofs.watch_calls.royukezan_watch_file_missed_by_value.Statement.{statement}
 use Rattle.royukezan.proofs.watch_calls.royukezan_watch_file_missed_by_value.Tie as tie
 

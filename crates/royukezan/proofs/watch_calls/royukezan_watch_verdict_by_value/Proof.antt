@@ -4,7 +4,7 @@ use mir.Facts.{toZ-ofZ}
 use lib.IntN.{ℤ}
 use Rattle.watch_rules.specs.Told.{Call, Called}
 use Rattle.watch_rules.specs.Record.{called}
-use Rattle.host_answers.specs.Answers.{verdictAnswer}
+use Rattle.host_rules.specs.Answers.{verdictAnswer}
 use Rattle.royukezan.proofs.watch_calls.royukezan_watch_verdict_by_value.Statement.{statement}
 use Rattle.royukezan.proofs.watch_calls.royukezan_watch_verdict_by_value.Tie as tie
 

@@ -24,7 +24,7 @@ use Rattle.power_rules.specs.declared.Answer.{Answer}
 use Rattle.power_rules.specs.declared.Handed.{Handed}
 use Rattle.power_rules.specs.declared.Stepped.{Stepped}
 use Rattle.power_rules.specs.Told.{toldAnswer}
-use Rattle.host_answers.specs.Answers.{refusalNumber, hundredthsAnswer, floatAnswer, burstAnswer, sweepBeside, nextAnswer, countsAnswer, choiceAnswer, watchOutcome, levelsAnswer, verdictAnswer, powerBeside, sentAnswer, sentBeside}
+use Rattle.host_rules.specs.Answers.{refusalNumber, hundredthsAnswer, floatAnswer, burstAnswer, sweepBeside, nextAnswer, countsAnswer, choiceAnswer, watchOutcome, levelsAnswer, verdictAnswer, powerBeside, sentAnswer, sentBeside}
 
 -- f is one-to-one over what g gives
 abbrev pub OneToOneOver : {A B C : Type 0} → (A → B) → (B → C) → Type 0

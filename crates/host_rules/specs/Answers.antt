@@ -14,19 +14,19 @@ use Rattle.choice_rules.specs.Choose.{Chosen, camp, read, noBeam}
 use Rattle.watch_rules.specs.Told.{Given, accepted, levels, wait, stay, moveTo, Called}
 use Rattle.power_rules.specs.declared.PowerRecord.{PowerRecord}
 use Rattle.power_rules.specs.Calls.{HandedBack, ToSend}
-use Rattle.host_answers.specs.declared.HundredthsAnswer.{HundredthsAnswer}
-use Rattle.host_answers.specs.declared.FloatAnswer.{FloatAnswer}
-use Rattle.host_answers.specs.declared.BurstAnswer.{BurstAnswer}
-use Rattle.host_answers.specs.declared.SweepOutcome.{SweepOutcome}
-use Rattle.host_answers.specs.declared.NextAnswer.{NextAnswer}
-use Rattle.host_answers.specs.declared.CountsAnswer.{CountsAnswer}
-use Rattle.host_answers.specs.declared.ChoiceAnswer.{ChoiceAnswer}
-use Rattle.host_answers.specs.declared.WatchOutcome.{WatchOutcome}
-use Rattle.host_answers.specs.declared.LevelsAnswer.{LevelsAnswer}
-use Rattle.host_answers.specs.declared.VerdictAnswer.{VerdictAnswer}
-use Rattle.host_answers.specs.declared.PowerOutcome.{PowerOutcome}
-use Rattle.host_answers.specs.declared.SentAnswer.{SentAnswer}
-use Rattle.host_answers.specs.declared.SentOutcome.{SentOutcome}
+use Rattle.host_rules.specs.declared.HundredthsAnswer.{HundredthsAnswer}
+use Rattle.host_rules.specs.declared.FloatAnswer.{FloatAnswer}
+use Rattle.host_rules.specs.declared.BurstAnswer.{BurstAnswer}
+use Rattle.host_rules.specs.declared.SweepOutcome.{SweepOutcome}
+use Rattle.host_rules.specs.declared.NextAnswer.{NextAnswer}
+use Rattle.host_rules.specs.declared.CountsAnswer.{CountsAnswer}
+use Rattle.host_rules.specs.declared.ChoiceAnswer.{ChoiceAnswer}
+use Rattle.host_rules.specs.declared.WatchOutcome.{WatchOutcome}
+use Rattle.host_rules.specs.declared.LevelsAnswer.{LevelsAnswer}
+use Rattle.host_rules.specs.declared.VerdictAnswer.{VerdictAnswer}
+use Rattle.host_rules.specs.declared.PowerOutcome.{PowerOutcome}
+use Rattle.host_rules.specs.declared.SentAnswer.{SentAnswer}
+use Rattle.host_rules.specs.declared.SentOutcome.{SentOutcome}
 
 -- ---- numbers
 

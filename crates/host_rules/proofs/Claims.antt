@@ -47,8 +47,8 @@ use Rattle.power_rules.specs.declared.Answer.{Answer}
 use Rattle.power_rules.specs.declared.Answer.the-variants as sent
 use Rattle.power_rules.specs.Told.{toldAnswer}
 use Rattle.power_rules.proofs.Claims as powers
-use Rattle.host_answers.specs.Answers.{acceptedNumber, refusalNumber, aChannel, toCamp, toRead, toWait, toStay, hundredthsAnswer, floatAnswer, burstAnswer, nextAnswer, countsAnswer, choiceAnswer, levelsAnswer, verdictAnswer, sentAnswer}
-use Rattle.host_answers.specs.Claims.{OneToOneOver, Changes, Changing, NothingLost}
+use Rattle.host_rules.specs.Answers.{acceptedNumber, refusalNumber, aChannel, toCamp, toRead, toWait, toStay, hundredthsAnswer, floatAnswer, burstAnswer, nextAnswer, countsAnswer, choiceAnswer, levelsAnswer, verdictAnswer, sentAnswer}
+use Rattle.host_rules.specs.Claims.{OneToOneOver, Changes, Changing, NothingLost}
 
 -- no refusal has the number of an accepted call
 not-accepted : (r : Refusal) → ¬ (numberOf r ≡ acceptedNumber)

@@ -1,0 +1,2 @@
+-- `Claims`: what a host finds fixes the library's answer.
+mod Claims
