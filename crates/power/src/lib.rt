@@ -1,11 +1,12 @@
 // The calls of the power steps: start, test and step, by value, and the step on a record that is lent. Document 01, section Power steps;
 // source document 000, clause 5.4, items 1 to 5.2, and clause 11.1.
 ghost use mathlib.Core.Path.{_≡_};
+ghost use mathlib.Core.Bool.{cond};
 ghost use Prim.Native.Nat.{_≤_, min};
 ghost use Rattle.refusal.specs.Told.{toldOutcome};
 ghost use Rattle.power_rules.specs.declared.Answer.the-variants.{Send, Refused};
 ghost use Rattle.power_rules.specs.Constants.{numericHighest, thousandthsHighest};
-ghost use Rattle.power_rules.specs.PowerSteps.{parametersInRange, codesInRange, wellFormed, freshWith, panUse, panBasicAfter, parSaveAfter, increaseAfter, recordAfter};
+ghost use Rattle.power_rules.specs.PowerSteps.{parametersInRange, codesInRange, numeric, wellFormed, freshWith, panUse, recordAfter};
 ghost use Rattle.power_rules.specs.Calls.{started, tested, stepped};
 ghost use Rattle.power_rules.specs.Told.{toldAnswer};
 ghost use Rattle.power_rules.specs.Refusals.{InRange, WellFormed};
@@ -104,19 +105,14 @@ fn lesser(a: u32, b: u32) -> u32
     if a <= b { a } else { b }
 }
 
-// Rule 1: the PAN in use, which is also the next PANlast.
-fn pan_use(r: PowerRecord, d: Decoded) -> u32
-    ensures { λ x. ⌜ x ≡ panUse r d ⌝ }
+// Rules 1 and 3: a code, where it is numeric; else the one before.
+fn numeric_or(code: u32, before: u32) -> u32
+    ensures { λ x. ⌜ x ≡ cond (numeric code) code before ⌝ }
 {
-    match d {
-        Decoded::Failed => r.panlast,
-        Decoded::Codes { pan, par: _ } => {
-            if pan <= NUMERIC_HIGHEST {
-                pan
-            } else {
-                r.panlast
-            }
-        }
+    if code <= NUMERIC_HIGHEST {
+        code
+    } else {
+        before
     }
 }
 
@@ -150,46 +146,14 @@ fn nearest_code(t: u32) -> u32
     (t + (CODE_STEP / 2 - 1)) / CODE_STEP
 }
 
-// Rule 3: the next PANbasic, by the PARsave before the step.
-fn pan_basic_after(r: PowerRecord, d: Decoded) -> u32
-    ensures { λ x. ⌜ x ≡ panBasicAfter r d ⌝ }
+// Rule 3: the next PANbasic after a message with this PAR, by the PARsave before the step.
+fn pan_basic_after(r: PowerRecord, par: u32) -> u32
+    ensures { λ x. ⌜ x ≡ cond (numeric par) (min par (r .parsave)) (r .panbasic) ⌝ }
 {
-    match d {
-        Decoded::Failed => r.panbasic,
-        Decoded::Codes { pan: _, par } => {
-            if par <= NUMERIC_HIGHEST {
-                lesser(par, r.parsave)
-            } else {
-                r.panbasic
-            }
-        }
-    }
-}
-
-// Rule 3: the next PARsave.
-fn par_save_after(r: PowerRecord, d: Decoded) -> u32
-    ensures { λ x. ⌜ x ≡ parSaveAfter r d ⌝ }
-{
-    match d {
-        Decoded::Failed => r.parsave,
-        Decoded::Codes { pan: _, par } => {
-            if par <= NUMERIC_HIGHEST {
-                par
-            } else {
-                r.parsave
-            }
-        }
-    }
-}
-
-// Rule 3: the next increase.
-fn increase_after(p: PowerParameters, r: PowerRecord, d: Decoded) -> u32
-    requires { ⌜ InRange p × WellFormed r ⌝ }
-    ensures { λ x. ⌜ x ≡ increaseAfter p r d ⌝ }
-{
-    match d {
-        Decoded::Failed => lesser(THOUSANDTHS_HIGHEST, r.increase + MESTEP_STEP * p.mestep),
-        Decoded::Codes { pan: _, par: _ } => 0,
+    if par <= NUMERIC_HIGHEST {
+        lesser(par, r.parsave)
+    } else {
+        r.panbasic
     }
 }
 
@@ -238,16 +202,24 @@ fn refused(why: Refusal, r: PowerRecord) -> Stepped
     }
 }
 
-// Rules 1 and 3: the record after a step.
+// Rules 1 and 3: the record after a step. PANlast is the PAN in use; a message that was not decoded adds to the increase alone.
 fn record_after(p: PowerParameters, r: PowerRecord, d: Decoded) -> PowerRecord
     requires { ⌜ InRange p × WellFormed r ⌝ }
     ensures { λ x. ⌜ x ≡ recordAfter p r d ⌝ }
 {
-    PowerRecord {
-        panlast: pan_use(r, d),
-        parsave: par_save_after(r, d),
-        panbasic: pan_basic_after(r, d),
-        increase: increase_after(p, r, d),
+    match d {
+        Decoded::Failed => PowerRecord {
+            panlast: r.panlast,
+            parsave: r.parsave,
+            panbasic: r.panbasic,
+            increase: lesser(THOUSANDTHS_HIGHEST, r.increase + MESTEP_STEP * p.mestep),
+        },
+        Decoded::Codes { pan, par } => PowerRecord {
+            panlast: numeric_or(pan, r.panlast),
+            parsave: numeric_or(par, r.parsave),
+            panbasic: pan_basic_after(r, par),
+            increase: 0,
+        },
     }
 }
 

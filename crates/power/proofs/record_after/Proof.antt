@@ -1,35 +1,36 @@
--- Each number is its definition's, by the contract of the function that works it out.
+-- By the cases of what was decoded: each number is its definition's. The sum fits, as the record is well formed.
+use mathlib.Core.Path.{_∙_, sym, ap}
+use Rattle.power_rules.specs.declared.Decoded.{Decoded}
+use Rattle.power_rules.specs.PowerSteps.{panUse, panBasicAfter, parSaveAfter, increaseAfter, recordAfter}
 use borrow.Author.Needs.{needs}
 use Rattle.power.proofs.record_after.Statement.{statement}
 use Rattle.power.proofs.record_after.Tie as tie
 
-pan-use-requires : tie.Need-pan-use-requires
-pan-use-requires c κs = search needs
-
-par-save-after-requires : tie.Need-par-save-after-requires
-par-save-after-requires c κs = search needs
-
-pan-basic-after-requires : tie.Need-pan-basic-after-requires
-pan-basic-after-requires c κs = search needs
-
-increase-after-requires : tie.Need-increase-after-requires
-increase-after-requires c κs = search needs
-
 returns : tie.Need-returns
-returns c i =
-    record {
-      panlast = c .before .before .before .pan-use .ensures i;
-      parsave = c .before .before .par-save-after .ensures i;
-      panbasic = c .before .pan-basic-after .ensures i;
-      increase = c .increase-after .ensures i;
+unfolding panUse panBasicAfter parSaveAfter increaseAfter
+returns c =
+    let a = c .before .before .before .before .before .args in
+    (λ i. record { panlast = a .r .panlast; parsave = a .r .parsave; panbasic = a .r .panbasic; increase = c .lesser .ensures i })
+    ∙ ap (recordAfter (a .p) (a .r)) (sym (c .before .before .before .enum-told .given .1))
+
+returns-2 : tie.Need-returns-2
+unfolding panUse panBasicAfter parSaveAfter increaseAfter
+returns-2 c =
+    let a = c .before .before .before .before .before .before .args in (
+    λ i. record {
+      panlast = c .before .before .numeric-or .ensures i;
+      parsave = c .before .numeric-or2 .ensures i;
+      panbasic = c .pan-basic-after .ensures i;
+      increase = 0;
     }
+    )
+    ∙ ap (recordAfter (a .p) (a .r)) (sym (c .before .before .before .before .d .given .1))
 
 pub record-after-spec : {M : Type 1} → statement M
 record-after-spec =
     tie.close
     (tie.spec
-    pan-use-requires
-    par-save-after-requires
-    pan-basic-after-requires
-    increase-after-requires
-    returns)
+    (λ c. search needs) (λ c. search needs) (λ c. search needs) (λ c κs. search needs)
+    (λ c. search needs) (λ c κs. search needs) (λ c κs. search needs) (λ c κs. search needs)
+    returns
+    returns-2)
