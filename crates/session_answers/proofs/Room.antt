@@ -1,13 +1,12 @@
 -- What is written word by word is the whole line, since no answer is longer than the room for it.
 use Prim.Native.Nat.{ℕ, zero, suc, _+_, _-_, _/_, _%_, _≤_, _<_}
 use mathlib.Core.Path.{_≡_, refl, sym, ap, _∙_}
-use mathlib.Core.Bool.{Bool, true, false, cond, _||_, true≢false, and-eq-true-iff}
+use mathlib.Core.Bool.{Bool, true, false, cond, _||_, true≢false}
 use mathlib.Core.List.{List, [], _∷_, _++_, append-assoc, append-nil}
 use native.Mathlib.Omega.{arith}
 use lib.ListN.{length, take, drop, getD, length-append}
 use lib.Seq.{take-all}
-use lib.Dec.{leb, ltb}
-use borrow.Author.Tests.{leb-true}
+use lib.Dec.{eqb, ltb}
 use lib.IntN.{ℤ, pos, negsuc}
 use lib.Ieee.{Float, binary32, toBits}
 use Rattle.io.specs.Digits.{glyph, digits}
@@ -15,7 +14,7 @@ use Rattle.session_lines.specs.Text.{room, lastDigits, decimalText, signedText,
 use Rattle.session_words.specs.Bytes.{newline}
 use Rattle.session_words.specs.Words.{between}
 use Rattle.session_words.proofs.Lists.{take-again, drop-at, drop-end, between-more}
-use Rattle.session_answers.specs.Filled.{firstLetter, lastLetter, isSigned, isCounted, standsFor, piece, filled, Plain, wide, widest}
+use Rattle.session_answers.specs.Filled.{letterA, letterB, letterZ, standsFor, piece, filled, Plain, wide, widest}
 use Rattle.session_answers.specs.Lines.{line}
 
 -- ---- the most bytes of a number
@@ -60,76 +59,76 @@ line-of-2 a b none e f end short = ended (a ++ b) (further a b (begun a none e) 
 
 -- ---- a line by its template
 
-module _ (ns : List ℕ) (z : ℤ) where
-  piece-most : (b : ℕ) → length (piece ns z b) ≤ wide b
-  piece-most b = go (isSigned b) (isCounted b)
+module _ (a b : ℕ) (z : ℤ) where
+  piece-most : (x : ℕ) → length (piece a b z x) ≤ wide x
+  piece-most x = go (eqb x letterA) (eqb x letterB) (eqb x letterZ)
     where
-      go : (s n : Bool) → length (cond s (signedText z) (cond n (decimalText (getD ns (b - firstLetter) 0)) (b ∷ []))) ≤ cond s 21 (cond n 20 1)
-      go true n = signed-most z
-      go false true = decimal-most (getD ns (b - firstLetter) 0)
-      go false false = omega arith
+      go : (p q r : Bool) → length (cond p (decimalText a) (cond q (decimalText b) (cond r (signedText z) (x ∷ [])))) ≤ cond (p || q || r) 21 1
+      go true q r = omega (arith, decimal-most a)
+      go false true r = omega (arith, decimal-most b)
+      go false false true = signed-most z
+      go false false false = omega arith
 
-  filled-most : (t : List ℕ) → length (filled t ns z) ≤ widest t
+  filled-most : (t : List ℕ) → length (filled t a b z) ≤ widest t
   filled-most [] = omega arith
-  filled-most (b ∷ t) = rw length-append (omega (arith, piece-most b, filled-most t))
+  filled-most (x ∷ t) = rw length-append (omega (arith, piece-most x, filled-most t))
 
   -- a byte that stands for itself
-  pub plain-byte : (b : ℕ) → standsFor b ≡ false → piece ns z b ≡ b ∷ []
-  plain-byte b e = go (isSigned b) (isCounted b) e
+  pub plain-byte : (x : ℕ) → standsFor x ≡ false → piece a b z x ≡ x ∷ []
+  plain-byte x e = go (eqb x letterA) (eqb x letterB) (eqb x letterZ) e
     where
-      go : (s n : Bool) → (s || n) ≡ false → cond s (signedText z) (cond n (decimalText (getD ns (b - firstLetter) 0)) (b ∷ [])) ≡ b ∷ []
-      go true n e = absurd (true≢false e)
-      go false true e = absurd (true≢false e)
-      go false false e = refl
+      go : (p q r : Bool) → (p || q || r) ≡ false → cond p (decimalText a) (cond q (decimalText b) (cond r (signedText z) (x ∷ []))) ≡ x ∷ []
+      go true q r e = absurd (true≢false e)
+      go false true r e = absurd (true≢false e)
+      go false false true e = absurd (true≢false e)
+      go false false false e = refl
 
   module _ (t : List ℕ) where
     -- the byte at a place
-    pub piece-at : (i : ℕ) → i < length t → filled (drop i t) ns z ≡ piece ns z (getD t i 0) ++ filled (drop (i + 1) t) ns z
-    piece-at i h = ap (λ d. filled d ns z) (drop-at t i 0 h)
+    pub piece-at : (i : ℕ) → i < length t → filled (drop i t) a b z ≡ piece a b z (getD t i 0) ++ filled (drop (i + 1) t) a b z
+    piece-at i h = ap (λ d. filled d a b z) (drop-at t i 0 h)
 
     -- a part of the template from i up to j is written, and says p
-    pub filled-on : (i j : ℕ) (p x : List ℕ) {y : List ℕ} → filled (drop i t) ns z ≡ p ++ filled (drop j t) ns z → y ≡ take room (x ++ p)
-        → take room (x ++ filled (drop i t) ns z) ≡ take room (y ++ filled (drop j t) ns z)
+    pub filled-on : (i j : ℕ) (p x : List ℕ) {y : List ℕ} → filled (drop i t) a b z ≡ p ++ filled (drop j t) a b z → y ≡ take room (x ++ p)
+        → take room (x ++ filled (drop i t) a b z) ≡ take room (y ++ filled (drop j t) a b z)
     filled-on i j p x {y} says e =
         ap (λ d. take room (x ++ d)) says
-        ∙ ap (take room) (sym (append-assoc x p (filled (drop j t) ns z)))
-        ∙ sym (take-again room (x ++ p) (filled (drop j t) ns z))
-        ∙ ap (λ y. take room (y ++ filled (drop j t) ns z)) (sym e)
+        ∙ ap (take room) (sym (append-assoc x p (filled (drop j t) a b z)))
+        ∙ sym (take-again room (x ++ p) (filled (drop j t) a b z))
+        ∙ ap (λ y. take room (y ++ filled (drop j t) a b z)) (sym e)
 
     -- all of it, with the newline
     pub filled-end : (i : ℕ) (x : List ℕ) {r : List ℕ} → length t ≤ i → widest t < room
-        → take room (filled t ns z) ≡ take room (x ++ filled (drop i t) ns z) → r ≡ take room (x ++ (newline ∷ [])) → r ≡ line (filled t ns z)
+        → take room (filled t a b z) ≡ take room (x ++ filled (drop i t) a b z) → r ≡ take room (x ++ (newline ∷ [])) → r ≡ line (filled t a b z)
     filled-end i x {r} over short so-far e =
-        let short2 : length (filled t ns z) < room = omega (arith, filled-most t) in
-        let all : take room (filled t ns z) ≡ take room x
-        = so-far ∙ ap (λ d. take room (x ++ filled d ns z)) (drop-end t i over) ∙ ap (take room) (append-nil x) in
+        let short2 : length (filled t a b z) < room = omega (arith, filled-most t) in
+        let all : take room (filled t a b z) ≡ take room x
+        = so-far ∙ ap (λ d. take room (x ++ filled d a b z)) (drop-end t i over) ∙ ap (take room) (append-nil x) in
         e ∙ sym (take-again room x (newline ∷ []))
         ∙ ap (λ y. take room (y ++ (newline ∷ []))) (sym all)
-        ∙ take-again room (filled t ns z) (newline ∷ [])
-        ∙ take-all room (line (filled t ns z)) (rw length-append (omega arith))
+        ∙ take-again room (filled t a b z) (newline ∷ [])
+        ∙ take-all room (line (filled t a b z)) (rw length-append (omega arith))
 
 -- ---- the bytes of a template that stand for themselves
 
 pub plain-none : (t : List ℕ) (from : ℕ) → Plain t from from
-plain-none t from ns z = let e : 0 ≡ from - from = omega arith in ap (λ k. take k (drop from t) ++ filled (drop from t) ns z) e
+plain-none t from a b z = let e : 0 ≡ from - from = omega arith in ap (λ k. take k (drop from t) ++ filled (drop from t) a b z) e
 
 -- one byte more
 pub plain-on : (t : List ℕ) (from i : ℕ) → from ≤ i → i < length t → standsFor (getD t i 0) ≡ false → Plain t from i → Plain t from (i + 1)
-plain-on t from i h k e so-far ns z =
-    so-far ns z
-    ∙ ap (λ r. between t from i ++ r) (piece-at ns z t i k ∙ ap (λ p. p ++ filled (drop (i + 1) t) ns z) (plain-byte ns z (getD t i 0) e))
-    ∙ sym (append-assoc (between t from i) (getD t i 0 ∷ []) (filled (drop (i + 1) t) ns z))
-    ∙ ap (λ p. p ++ filled (drop (i + 1) t) ns z) (sym (between-more t from i h k))
+plain-on t from i h k e so-far a b z =
+    so-far a b z
+    ∙ ap (λ r. between t from i ++ r) (piece-at a b z t i k ∙ ap (λ p. p ++ filled (drop (i + 1) t) a b z) (plain-byte a b z (getD t i 0) e))
+    ∙ sym (append-assoc (between t from i) (getD t i 0 ∷ []) (filled (drop (i + 1) t) a b z))
+    ∙ ap (λ p. p ++ filled (drop (i + 1) t) a b z) (sym (between-more t from i h k))
 
--- ---- a byte that stands for a number
+-- ---- a letter that stands for a number
 
--- not the one with a sign: one of those in their order
-pub counted : (b : ℕ) → isSigned b ≡ false → standsFor b ≡ true → isCounted b ≡ true
-counted b e f = go (isSigned b) e f
+-- neither of the first two: the last
+pub last-letter : (x : ℕ) → standsFor x ≡ true → eqb x letterA ≡ false → eqb x letterB ≡ false → eqb x letterZ ≡ true
+last-letter x h e f = go (eqb x letterA) (eqb x letterB) h e f
   where
-    go : (s : Bool) → s ≡ false → (s || isCounted b) ≡ true → isCounted b ≡ true
-    go true e f = absurd (true≢false e)
-    go false e f = f
-
-pub counted-from : (b : ℕ) → isCounted b ≡ true → firstLetter ≤ b
-counted-from b e = leb-true firstLetter b (and-eq-true-iff (leb firstLetter b) (leb b lastLetter) .0 e .0)
+    go : (p q : Bool) → (p || q || eqb x letterZ) ≡ true → p ≡ false → q ≡ false → eqb x letterZ ≡ true
+    go true q h e f = absurd (true≢false e)
+    go false true h e f = absurd (true≢false f)
+    go false false h e f = h

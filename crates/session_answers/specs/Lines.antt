@@ -9,8 +9,7 @@ use Rattle.sweep_rules.specs.Counts.{Counts}
 use Rattle.choice_rules.specs.Choose.{Chosen, camp, read, noBeam}
 use Rattle.watch_rules.specs.Told.{Given, accepted, levels, wait, stay, moveTo}
 use Rattle.power_rules.specs.Calls.{ToSend}
-use Rattle.session_words.specs.Bytes.{bytesOf}
-use Rattle.session_words.specs.Bytes.{newline}
+use Rattle.session_words.specs.Bytes.{bytesOf, newline}
 use Rattle.session_lines.specs.Text.{bitsText}
 use Rattle.session_answers.specs.Filled.{filled, says}
 
@@ -19,7 +18,7 @@ abbrev pub line : List ℕ → List ℕ
 line text = text ++ (newline ∷ [])
 
 abbrev pub refusedText : ℕ → List ℕ
-refusedText n = says "refused A" (n ∷ [])
+refusedText n = says "refused A" n 0
 
 -- the line of an answer, by the text of what an accepted call gives
 abbrev pub answerLine : {A : Type 0} → (A → List ℕ) → Told A → List ℕ
@@ -27,35 +26,35 @@ answerLine text (gives a) = line (text a)
 answerLine text (refused n) = line (refusedText n)
 
 abbrev pub acceptedText : List ℕ
-acceptedText = says "accepted" []
+acceptedText = says "accepted" 0 0
 
 abbrev pub hundredthsText : ℤ → List ℕ
-hundredthsText h = filled (bytesOf "hundredths Z") [] h
+hundredthsText h = filled (bytesOf "hundredths Z") 0 0 h
 
 abbrev pub floatText : Float → List ℕ
 floatText x = bytesOf "float 0x" ++ bitsText x
 
 abbrev pub nextText : Next → List ℕ
-nextText (channel c) = says "next A" (c ∷ [])
-nextText done = says "done" []
+nextText (channel c) = says "next A" c 0
+nextText done = says "done" 0 0
 
 abbrev pub countsText : Counts → List ℕ
-countsText n = says "visited A heard B" (n .visited ∷ n .heard ∷ [])
+countsText n = says "visited A heard B" (n .visited) (n .heard)
 
 abbrev pub choiceText : Chosen → List ℕ
-choiceText (camp c n) = says "camp A tried B" (c ∷ n ∷ [])
-choiceText (read c n) = says "read A tried B" (c ∷ n ∷ [])
-choiceText (noBeam n) = says "no beam tried A" (n ∷ [])
+choiceText (camp c n) = says "camp A tried B" c n
+choiceText (read c n) = says "read A tried B" c n
+choiceText (noBeam n) = says "no beam tried A" n 0
 
 abbrev pub watchText : Given → List ℕ
 watchText accepted = acceptedText
-watchText (levels count mean) = filled (bytesOf "count A mean Z") (count ∷ []) mean
-watchText wait = says "wait" []
-watchText stay = says "stay" []
-watchText (moveTo c) = says "move A" (c ∷ [])
+watchText (levels count mean) = filled (bytesOf "count A mean Z") count 0 mean
+watchText wait = says "wait" 0 0
+watchText stay = says "stay" 0 0
+watchText (moveTo c) = says "move A" c 0
 
 abbrev pub powerText : ToSend → List ℕ
-powerText s = says "par A pan B" (natAbs (s .par) ∷ natAbs (s .pan) ∷ [])
+powerText s = says "par A pan B" (natAbs (s .par)) (natAbs (s .pan))
 
 unfoldable pub outcomeLine : Told Unit → List ℕ
 outcomeLine = answerLine (λ _. acceptedText)
@@ -83,4 +82,4 @@ powerLine = answerLine powerText
 
 -- what is written for a line that is none of the calls, by its number in the file
 abbrev pub errorLine : ℕ → List ℕ
-errorLine n = line (says "error line A" (n ∷ []))
+errorLine n = line (says "error line A" n 0)

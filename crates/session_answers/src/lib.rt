@@ -3,7 +3,7 @@ ghost use mathlib.Core.Path.{_≡_};
 ghost use mathlib.Core.List.{[], _∷_, _++_};
 ghost use Prim.Native.Nat.{_<_, _≤_};
 ghost use mathlib.Core.Bool.{true};
-ghost use lib.ListN.{length, getD, take};
+ghost use lib.ListN.{length, take};
 ghost use Rattle.refusal.specs.Number.{numberOf};
 ghost use Rattle.refusal.specs.Told.{toldOutcome};
 ghost use Rattle.readings_rules.specs.Told.{toldHundredths, toldShown};
@@ -13,7 +13,7 @@ ghost use Rattle.watch_rules.specs.Told.{told};
 ghost use Rattle.power_rules.specs.Told.{toldAnswer};
 ghost use Rattle.session_words.specs.Bytes.{newline};
 ghost use Rattle.session_lines.specs.Text.{room, said};
-ghost use Rattle.session_answers.specs.Lines.{line, refusedText, floatText};
+ghost use Rattle.session_answers.specs.Lines.{line, acceptedText, refusedText, floatText};
 ghost use Rattle.session_answers.specs.Filled.{standsFor, piece, filled, Run, widest};
 ghost use Rattle.session_answers.specs.Lines.{outcomeLine, hundredthsLine, floatLine, nextLine, countsLine, choiceLine, watchLine, powerLine, errorLine};
 use choice_rules::Choice;
@@ -30,10 +30,10 @@ use session_lines::with_signed;
 use sweep_rules::NextChannel;
 use sweep_rules::Numbers;
 
-// What stands in a template for the numbers, the first to the last, and for the one with a sign.
-const FIRST_NUMBER: u8 = b'A';
+// The letters of a template: two numbers, and one with a sign.
+const FIRST: u8 = b'A';
 
-const LAST_NUMBER: u8 = b'F';
+const SECOND: u8 = b'B';
 
 const SIGNED: u8 = b'Z';
 
@@ -44,18 +44,11 @@ fn ended(text: Text) -> Text
     with(text, b"\n")
 }
 
-// The number at a place; beyond the last, 0.
-fn number_at(numbers: &[u64], k: usize) -> u64
-    ensures { λ r. ⌜ r ≡ getD (now (numbers .entry)) k 0 ⌝ }
-{
-    if k < numbers.len() { numbers[k] } else { 0 }
-}
-
 // Whether a byte of a template stands for a number.
-fn is_number(b: u8) -> bool
-    ensures { λ r. ⌜ r ≡ standsFor b ⌝ }
+fn is_number(letter: u8) -> bool
+    ensures { λ r. ⌜ r ≡ standsFor letter ⌝ }
 {
-    (b == SIGNED) | ((b >= FIRST_NUMBER) & (b <= LAST_NUMBER))
+    (letter == FIRST) | (letter == SECOND) | (letter == SIGNED)
 }
 
 // Where the bytes of a template from a place on that stand for themselves end.
@@ -73,22 +66,25 @@ fn run_end(template: &[u8], from: usize) -> usize
     i
 }
 
-// The text with the number after it that a byte of a template stands for.
-fn with_number(text: Text, b: u8, numbers: &[u64], signed: i32) -> Text
-    requires { ⌜ standsFor b ≡ true ⌝ }
-    ensures { λ r. ⌜ said r ≡ take room (said text ++ piece (now (numbers .entry)) signed b) ⌝ }
+// The text with the number after it that a letter of a template stands for.
+fn with_number(text: Text, letter: u8, a: u64, b: u64, z: i32) -> Text
+    requires { ⌜ standsFor letter ≡ true ⌝ }
+    ensures { λ r. ⌜ said r ≡ take room (said text ++ piece a b z letter) ⌝ }
 {
-    if b == SIGNED {
-        return with_signed(text, signed);
+    if letter == FIRST {
+        return with_decimal(text, a);
     }
-    with_decimal(text, number_at(numbers, (b - FIRST_NUMBER) as usize))
+    if letter == SECOND {
+        return with_decimal(text, b);
+    }
+    with_signed(text, z)
 }
 
-// The line of a template: `A` to `F` stand for the numbers, in their order, and `Z` for the one with a sign. It finds room whatever the
-// numbers are: none has more than 20 digits.
-fn filled(template: &[u8], numbers: &[u64], signed: i32) -> Text
+// The line of a template: `A` and `B` stand for the numbers, and `Z` for the one with a sign. It finds room whatever the numbers are: none has
+// more than 20 digits.
+fn filled(template: &[u8], a: u64, b: u64, z: i32) -> Text
     requires { ⌜ widest (now template) < room ⌝ }
-    ensures { λ r. ⌜ said r ≡ line (filled (now (template .entry)) (now (numbers .entry)) signed) ⌝ }
+    ensures { λ r. ⌜ said r ≡ line (filled (now (template .entry)) a b z) ⌝ }
 {
     let mut text = nothing();
     let mut at = 0;
@@ -98,15 +94,21 @@ fn filled(template: &[u8], numbers: &[u64], signed: i32) -> Text
         if end == template.len() {
             return ended(text);
         }
-        text = with_number(text, template[end], numbers, signed);
+        text = with_number(text, template[end], a, b, z);
         at = end + 1;
     }
+}
+
+fn accepted() -> Text
+    ensures { λ r. ⌜ said r ≡ line acceptedText ⌝ }
+{
+    filled(b"accepted", 0, 0, 0)
 }
 
 fn refused(why: Refusal) -> Text
     ensures { λ r. ⌜ said r ≡ line (refusedText (numberOf why)) ⌝ }
 {
-    filled(b"refused A", &[refusal::number(why) as u64], 0)
+    filled(b"refused A", refusal::number(why) as u64, 0, 0)
 }
 
 fn float(x: f32) -> Text
@@ -120,7 +122,7 @@ pub fn of_outcome(answer: Outcome) -> Text
     ensures { λ r. ⌜ said r ≡ outcomeLine (toldOutcome answer) ⌝ }
 {
     match answer {
-        Outcome::Accepted => filled(b"accepted", &[], 0),
+        Outcome::Accepted => accepted(),
         Outcome::Refused(why) => refused(why),
     }
 }
@@ -130,7 +132,7 @@ pub fn of_hundredths(answer: Hundredths) -> Text
     ensures { λ r. ⌜ said r ≡ hundredthsLine (toldHundredths answer) ⌝ }
 {
     match answer {
-        Hundredths::Value(h) => filled(b"hundredths Z", &[], h),
+        Hundredths::Value(h) => filled(b"hundredths Z", 0, 0, h),
         Hundredths::Refused(why) => refused(why),
     }
 }
@@ -150,8 +152,8 @@ pub fn of_next(answer: NextChannel) -> Text
     ensures { λ r. ⌜ said r ≡ nextLine (toldNext answer) ⌝ }
 {
     match answer {
-        NextChannel::Channel(c) => filled(b"next A", &[c as u64], 0),
-        NextChannel::Done => filled(b"done", &[], 0),
+        NextChannel::Channel(c) => filled(b"next A", c as u64, 0, 0),
+        NextChannel::Done => filled(b"done", 0, 0, 0),
         NextChannel::Refused(why) => refused(why),
     }
 }
@@ -163,7 +165,8 @@ pub fn of_counts(answer: Numbers) -> Text
     match answer {
         Numbers::Of { visited, heard } => filled(
             b"visited A heard B",
-            &[visited as u64, heard as u64],
+            visited as u64,
+            heard as u64,
             0,
         ),
         Numbers::Refused(why) => refused(why),
@@ -177,15 +180,17 @@ pub fn of_choice(answer: Choice) -> Text
     match answer {
         Choice::Camp { channel, tried } => filled(
             b"camp A tried B",
-            &[channel as u64, tried as u64],
+            channel as u64,
+            tried as u64,
             0,
         ),
         Choice::Read { channel, tried } => filled(
             b"read A tried B",
-            &[channel as u64, tried as u64],
+            channel as u64,
+            tried as u64,
             0,
         ),
-        Choice::NoBeam { tried } => filled(b"no beam tried A", &[tried as u64], 0),
+        Choice::NoBeam { tried } => filled(b"no beam tried A", tried as u64, 0, 0),
         Choice::Refused(why) => refused(why),
     }
 }
@@ -195,16 +200,17 @@ pub fn of_watch(answer: watch_rules::Answer) -> Text
     ensures { λ r. ⌜ said r ≡ watchLine (told answer) ⌝ }
 {
     match answer {
-        watch_rules::Answer::Accepted => filled(b"accepted", &[], 0),
+        watch_rules::Answer::Accepted => accepted(),
         watch_rules::Answer::Refused(why) => refused(why),
         watch_rules::Answer::Levels { count, mean } => filled(
             b"count A mean Z",
-            &[count as u64],
+            count as u64,
+            0,
             mean,
         ),
-        watch_rules::Answer::Wait => filled(b"wait", &[], 0),
-        watch_rules::Answer::Stay => filled(b"stay", &[], 0),
-        watch_rules::Answer::MoveTo(c) => filled(b"move A", &[c as u64], 0),
+        watch_rules::Answer::Wait => filled(b"wait", 0, 0, 0),
+        watch_rules::Answer::Stay => filled(b"stay", 0, 0, 0),
+        watch_rules::Answer::MoveTo(c) => filled(b"move A", c as u64, 0, 0),
     }
 }
 
@@ -213,11 +219,7 @@ pub fn of_power(answer: power_rules::Answer) -> Text
     ensures { λ r. ⌜ said r ≡ powerLine (toldAnswer answer) ⌝ }
 {
     match answer {
-        power_rules::Answer::Send { par, pan } => filled(
-            b"par A pan B",
-            &[par as u64, pan as u64],
-            0,
-        ),
+        power_rules::Answer::Send { par, pan } => filled(b"par A pan B", par as u64, pan as u64, 0),
         power_rules::Answer::Refused(why) => refused(why),
     }
 }
@@ -226,5 +228,5 @@ pub fn of_power(answer: power_rules::Answer) -> Text
 pub fn of_error(line: u64) -> Text
     ensures { λ r. ⌜ said r ≡ errorLine line ⌝ }
 {
-    filled(b"error line A", &[line], 0)
+    filled(b"error line A", line, 0, 0)
 }

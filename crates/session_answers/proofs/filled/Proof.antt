@@ -17,17 +17,17 @@ use Rattle.session_answers.proofs.filled.Statement.{statement}
 use Rattle.session_answers.proofs.filled.Tie as tie
 
 abbrev Inv-loop : tie.InvT-loop
-Inv-loop template numbers signed text₀ at₀ text at =
+Inv-loop template a b z text₀ at₀ text at =
     (at ≤ length template)
-    × (take room (filled template numbers (toZ w32 signed)) ≡ take room (said text ++ filled (drop at template) numbers (toZ w32 signed)))
+    × (take room (filled template a b (toZ w32 z)) ≡ take room (said text ++ filled (drop at template) a b (toZ w32 z)))
 
 abbrev μ-loop : tie.MeasureT-loop
-μ-loop template numbers signed text₀ at₀ text at = length template - at
+μ-loop template a b z text₀ at₀ text at = length template - at
 
 loop-holds : tie.Need-loop-holds Inv-loop μ-loop
 loop-holds c =
-    let a = c .before .before .before .args in
-    (omega arith, ap (λ x. take room (x ++ filled (a .template .now) (a .numbers .now) (toZ w32 (ofZ w32 (a .signed))))) (sym (c .nothing .ensures)))
+    let a = c .before .before .args in
+    (omega arith, ap (λ x. take room (x ++ filled (a .template .now) (a .a) (a .b) (toZ w32 (ofZ w32 (a .z))))) (sym (c .nothing .ensures)))
 
 module _ (c : tie.After-with Inv-loop μ-loop) where
   abbrev run : tie.After-run-end Inv-loop μ-loop
@@ -37,28 +37,28 @@ module _ (c : tie.After-with Inv-loop μ-loop) where
   at = run .before
 
   abbrev start : tie.Start Inv-loop μ-loop
-  start = at .before .before .before .before
+  start = at .before .before .before
 
   -- once a run is written, what is left to write begins with a number
-  written : take room (filled (start .args .template .now) (start .args .numbers .now) (toZ w32 (ofZ w32 (start .args .signed))))
-      ≡ take room (said (c .with .result) ++ filled (drop (run .run-end .result) (start .args .template .now)) (start .args .numbers .now)
-      (toZ w32 (ofZ w32 (start .args .signed))))
+  written : take room (filled (start .args .template .now) (start .args .a) (start .args .b) (toZ w32 (ofZ w32 (start .args .z))))
+      ≡ take room (said (c .with .result) ++ filled (drop (run .run-end .result) (start .args .template .now)) (start .args .a) (start .args .b)
+      (toZ w32 (ofZ w32 (start .args .z))))
   written =
       let t = start .args .template .now in
-      let z = toZ w32 (ofZ w32 (start .args .signed)) in
+      let z = toZ w32 (ofZ w32 (start .args .z)) in
       at .loop .inv .1
-      ∙ filled-on (start .args .numbers .now) z t (at .loop .at) (run .run-end .result) (between t (at .loop .at) (run .run-end .result))
+      ∙ filled-on (start .args .a) (start .args .b) z t (at .loop .at) (run .run-end .result) (between t (at .loop .at) (run .run-end .result))
       (said (at .loop .text))
-      (run .run-end .ensures .plain (start .args .numbers .now) z) (c .with .ensures)
+      (run .run-end .ensures .plain (start .args .a) (start .args .b) z) (c .with .ensures)
 
 returns : tie.Need-returns Inv-loop μ-loop
 returns c =
     let w = c .before .before in
     let a = start w .args in
-    filled-end (a .numbers .now) (toZ w32 (ofZ w32 (a .signed))) (a .template .now) (run w .run-end .result) (said (w .with .result))
+    filled-end (a .a) (a .b) (toZ w32 (ofZ w32 (a .z))) (a .template .now) (run w .run-end .result) (said (w .with .result))
     (omega (arith, c .before .if1 .taken))
     (start w .pre) (written w) (c .ended .ensures)
-    ∙ ap (λ z. line (filled (a .template .now) (a .numbers .now) z)) (toZ-ofZ w32 (a .signed) (start w .fits .signed))
+    ∙ ap (λ z. line (filled (a .template .now) (a .a) (a .b) z)) (toZ-ofZ w32 (a .z) (start w .fits .z))
 
 inside : (c : tie.Else1 Inv-loop μ-loop) → run (c .before) .run-end .result < length (start (c .before) .args .template .now)
 inside c = omega (arith, run (c .before) .run-end .ensures .within, c .if1 .left)
@@ -69,10 +69,10 @@ loop-again c =
     let w = e .before in
     let a = start w .args in
     let t = a .template .now in
-    let z = toZ w32 (ofZ w32 (a .signed)) in
+    let z = toZ w32 (ofZ w32 (a .z)) in
     let i = run w .run-end .result in (
       omega (arith, inside e),
-      written w ∙ filled-on (a .numbers .now) z t i (i + 1) _ (said (w .with .result)) (piece-at (a .numbers .now) z t i (inside e)) (c .with-number .ensures),
+      written w ∙ filled-on (a .a) (a .b) z t i (i + 1) _ (said (w .with .result)) (piece-at (a .a) (a .b) z t i (inside e)) (c .with-number .ensures),
     )
 
 pub filled-spec : {M : Type 1} → statement M

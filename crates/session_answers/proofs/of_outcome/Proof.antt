@@ -8,6 +8,6 @@ pub of-outcome-spec : {M : Type 1} → statement M
 unfolding outcomeLine
 of-outcome-spec =
     tie.close (tie.spec
-    (λ c. search needs) (λ c. search needs) (λ c. search needs) (λ c κs. search needs) (λ c. search needs) (λ c κs. search needs)
-    (λ c. rw (c .before .before .before .enum-told .given .1) (c .filled .ensures))
+    (λ c. search needs) (λ c κs. search needs) (λ c. search needs) (λ c κs. search needs)
+    (λ c. rw (c .before .enum-told .given .1) (c .accepted .ensures))
     (λ c. rw (c .before .before .answer .given .1) (c .refused .ensures)))

@@ -6,7 +6,7 @@ use Rattle.session_answers.proofs.refused.Statement.{statement}
 use Rattle.session_answers.proofs.refused.Tie as tie
 
 returns : tie.Need-returns
-returns c = c .filled .ensures ∙ ap (λ n. line (refusedText n)) (c .before .before .number .ensures)
+returns c = c .filled .ensures ∙ ap (λ n. line (refusedText n)) (c .before .number .ensures)
 
 pub refused-spec : {M : Type 1} → statement M
-refused-spec = tie.close (tie.spec (λ c. search needs) (λ c κs. search needs) (λ c. search needs) (λ c. search needs) (λ c κs. search needs) returns)
+refused-spec = tie.close (tie.spec (λ c. search needs) (λ c κs. search needs) (λ c. search needs) (λ c κs. search needs) returns)
