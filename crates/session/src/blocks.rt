@@ -71,16 +71,14 @@ pub fn answer_block(session: Session, block: &[u8], out: &mut [u8]) -> Progress
             continue;
         }
         let bytes = line.bytes;
-        let length = least(line.length, LONGEST);
-        let held = &bytes[..length];
+        let held = &bytes[..least(line.length, LONGEST)];
         let row = row_of(line.length, held);
         let this = number;
-        line = blank();
+        line.length = 0;
         number = next_number(this);
         at = end + 1;
         if row < WATCH_ROWS {
-            let before = state.watch;
-            let handed = watch_row(before, row, held);
+            let handed = watch_row(state.watch, row, held);
             let after = handed.watch;
             state.watch = after;
             let told = handed.answer;
@@ -88,8 +86,7 @@ pub fn answer_block(session: Session, block: &[u8], out: &mut [u8]) -> Progress
         } else {
             let a = answer(state, this, row, held);
             state = a.state;
-            let text = a.text;
-            used = put(out, used, text);
+            used = put(out, used, a.text);
         }
     }
     Progress {
@@ -107,12 +104,10 @@ pub fn answer_block(session: Session, block: &[u8], out: &mut [u8]) -> Progress
 pub fn finish(session: Session) -> Text
     ensures { λ r. ⌜ said r ≡ toWrite session [] ⌝ }
 {
-    let state = session.state;
     let line = session.line;
     let bytes = line.bytes;
-    let length = least(line.length, LONGEST);
-    let held = &bytes[..length];
+    let held = &bytes[..least(line.length, LONGEST)];
     let row = row_of(line.length, held);
-    let last = answer(state, session.number, row, held);
+    let last = answer(session.state, session.number, row, held);
     last.text
 }

@@ -100,7 +100,7 @@ loop-again c =
 
 module _ (n : tie.After-next-number Inv-loop μ-loop) where
   abbrev row-found : tie.After-row-of Inv-loop μ-loop
-  row-found = n .before .before
+  row-found = n .before
 
   abbrev least : tie.After-least Inv-loop μ-loop
   least = row-found .before .before
@@ -118,8 +118,9 @@ module _ (n : tie.After-next-number Inv-loop μ-loop) where
   inside : found whole .find .result < length (block (turn whole))
   inside = omega (arith, found whole .find .ensures .1, least .before .before .if1 .left)
 
-  blank-long : length (n .before .blank .result .bytes) ≡ longest
-  blank-long = search needs
+  -- a line of no bytes follows
+  abbrev no-bytes : Line
+  no-bytes = record { bytes = whole .with-more .result .bytes; length = 0 }
 
   answered : (state : State) (text : Text) {out : List ℕ} {used : ℕ} → length (text .bytes) ≡ room → said text ≡ done .text → state ≡ done .state
       → used ≡ before-it .loop .used + fitting (said text) (before-it .loop .out) (before-it .loop .used)
@@ -127,18 +128,18 @@ module _ (n : tie.After-next-number Inv-loop μ-loop) where
       → Inv-loop (block (turn whole)) (before-it .before .before .before .before .before .args .out .now)
       (before-it .before .before .before .before .before .args .session .state)
       (before-it .before .before .before .before .before .args .session .line) (before-it .before .before .before .before .before .args .session .number) 0 0
-      out state (n .before .blank .result) (n .next-number .result) (found whole .find .result + 1) used
+      out state no-bytes (n .next-number .result) (found whole .find .result + 1) used
   answered state text room-is w a u p =
       let i = turn whole in
       let l = before-it .loop in
-      let t = session state (n .before .blank .result) (n .next-number .result) in
+      let t = session state no-bytes (n .next-number .result) in
       let goes =
       line-ends (block i) (in-block i) (found whole .find .ensures .0) (session (l .state) (l .line) (l .number)) t (whole .with-more .result) (said text)
       inside
-      (l .inv .long) (line-long whole) blank-long (whole .with-more .ensures) (n .before .blank .ensures) w a (n .next-number .ensures) in
+      (l .inv .long) (line-long whole) (line-long whole) (whole .with-more .ensures) refl w a (n .next-number .ensures) in
       filling-on (l .inv) t (said text) (found whole .find .result + 1 - l .at) (omega (arith, goes-on whole)) (omega (arith, goes-on whole))
       (omega (arith, goes-on whole, inside))
-      (has-room i) (text-fits text room-is) blank-long goes u p
+      (has-room i) (text-fits text room-is) (line-long whole) goes u p
 
   -- by its row
   by-row : heldWritten (row-found .row-of .result) (before-it .loop .number) (before-it .loop .state)
@@ -161,7 +162,7 @@ loop-again-2 c =
     let p = c .before .before in
     let o = p .before in
     let h = o .before .before .before in
-    let b = h .before .before in
+    let b = h .before in
     let n = b .before in
     let l = before-it n .loop in
     let e : handedOver (l .state) (toldHanded (h .watch-row .result)) ≡ done n
@@ -173,7 +174,7 @@ loop-again-2 c =
 loop-again-3 : tie.Need-loop-again-3 Inv-loop μ-loop
 loop-again-3 c =
     let p = c .before .before in
-    let a = p .before .before .before .before in
+    let a = p .before .before .before in
     let n = a .before .before in
     let e = a .answer .ensures ∙ by-row n in
     answered n _ (a .answer .result .text) (answer-room a) (ap (λ w. w .text) e) (ap (λ w. w .state) e) (p .put2 .ensures .0) (p .put2 .ensures .1)
@@ -203,13 +204,13 @@ answer-block-spec =
     (λ c κs. search needs)
     (λ c. omega (arith, c .least .ensures, line-long (c .before .before .before)))
     (λ c. sym (length-take-le _ _ (omega (arith, c .before .least .ensures, line-long (c .before .before .before .before)))))
-    (λ c κs. search needs) (λ c κs. search needs) (λ c κs. search needs)
+    (λ c κs. search needs) (λ c κs. search needs)
     (λ c. record { fits = omega (arith, inside c, block-fits (turn (whole c))) })
     (λ c κs. search needs) (λ c κs. search needs) (λ c κs. search needs)
-    (λ c. less (c .before .before .before .before .before .before .before .before .before))
+    (λ c. less (c .before .before .before .before .before .before .before .before))
     loop-again-2
     (λ c κs. search needs) (λ c κs. search needs)
-    (λ c. less (c .before .before .before .before .before .before .before .before))
+    (λ c. less (c .before .before .before .before .before .before .before))
     loop-again-3
     (λ c. search needs)
     returns)

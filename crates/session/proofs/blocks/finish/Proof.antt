@@ -14,14 +14,14 @@ use Rattle.session.proofs.blocks.finish.Tie as tie
 long : (c : tie.Start) → length (c .args .session .line .bytes) ≡ longest
 long c = search needs
 
-short : (c : tie.After-least) → c .least .result ≤ length (c .before .before .before .before .args .session .line .bytes)
-short c = omega (arith, c .least .ensures, long (c .before .before .before .before))
+short : (c : tie.After-least) → c .least .result ≤ length (c .before .before .before .args .session .line .bytes)
+short c = omega (arith, c .least .ensures, long (c .before .before .before))
 
 returns : tie.Need-returns
 returns c =
     let r = c .before .before in
     let l = r .before .before in
-    let s = l .before .before .before .before in
+    let s = l .before .before .before in
     let t = s .args .session in
     ap (λ w. w .text) (c .before .answer .ensures ∙ line-held (t .number) (t .state) (t .line) (long s) (l .least .ensures) (r .row-of .ensures)) ∙ finishes t
 
