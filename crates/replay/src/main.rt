@@ -38,7 +38,7 @@ fn replay_block(session: Session, block: &[u8]) -> Turn {
 fn replay_last(session: Session) {
     let mut out = io::buffer();
     let last = session::finish(session);
-    let n = session_lines::put(&mut out, 0, last);
+    let n = session_texts::put(&mut out, 0, last);
     if !io::write_all(STDOUT_FILENO, &out[..n]) {
         os::fail(b"standard output");
     }

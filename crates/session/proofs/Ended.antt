@@ -13,7 +13,7 @@ use Rattle.watch_rules.specs.Told.{verdict}
 use Rattle.session_words.specs.Words.{wordsOf}
 use Rattle.session_words.proofs.Lists.{cond-true, cond-false}
 use Rattle.session_lines.specs.Lines.{hash, longest, passedOver}
-use Rattle.session_lines.specs.declared.lines.Line.{Line}
+use Rattle.session_lines.specs.declared.Line.{Line}
 use Rattle.session_calls.specs.Table.{rowAt}
 use Rattle.session_state.specs.declared.State.{State}
 use Rattle.session_rows.specs.Calls.{only, malformed, watching}

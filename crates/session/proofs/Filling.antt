@@ -16,9 +16,10 @@ use Rattle.session_words.proofs.Cuts.{to-end}
 use Rattle.session_words.proofs.Lists.{rest-is}
 use Rattle.session_words.specs.Bytes.{newline}
 use Rattle.session_lines.specs.Lines.{longest, keptOf, kept, withMore}
-use Rattle.session_lines.specs.Text.{room, said, fitting}
-use Rattle.session_lines.specs.declared.lines.Line.{Line}
-use Rattle.session_lines.specs.declared.text.Text.{Text}
+use Rattle.session_words.specs.Bytes.{fitting}
+use Rattle.session_texts.specs.Text.{room, said}
+use Rattle.session_lines.specs.declared.Line.{Line}
+use Rattle.session_texts.specs.declared.Text.{Text}
 use Rattle.session.specs.declared.blocks.Session.{Session}
 use Rattle.session.specs.File.{lineWritten, following}
 use Rattle.session.specs.Reading.{soFar, toWrite, GoesOn, Moves}

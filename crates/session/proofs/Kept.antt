@@ -12,7 +12,7 @@ use borrow.Author.Tests.{leb-true, leb-false, lt-ltb}
 use Rattle.session_words.proofs.Lists.{take-again, cond-true}
 use Rattle.session_words.specs.Bytes.{newline}
 use Rattle.session_lines.specs.Lines.{longest, passedOver, linesAfter, Kept, keptOf, kept, withMore}
-use Rattle.session_lines.specs.declared.lines.Line.{Line}
+use Rattle.session_lines.specs.declared.Line.{Line}
 use Rattle.session_state.specs.declared.State.{State}
 use Rattle.session_answers.specs.Lines.{errorLine}
 use Rattle.session_rows.specs.Calls.{only}

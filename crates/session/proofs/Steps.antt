@@ -9,7 +9,7 @@ use mir.Val.{Fits}
 use Rattle.bytes.specs.Bytes.{indexOf}
 use Rattle.session_words.specs.Bytes.{newline}
 use Rattle.session_lines.specs.Lines.{longest, linesAfter, keptOf, kept, withMore}
-use Rattle.session_lines.specs.declared.lines.Line.{Line}
+use Rattle.session_lines.specs.declared.Line.{Line}
 use Rattle.session_state.specs.declared.State.{State}
 use Rattle.session.specs.declared.blocks.Session.{Session}
 use Rattle.session_state.specs.State.{begins}

@@ -7,8 +7,8 @@ use lib.ListN.{length, take}
 use lib.Dec.{leb, ltb}
 use Rattle.session_words.specs.Words.{wordsOf}
 use Rattle.session_lines.specs.Lines.{longest, passedOver, linesAfter}
-use Rattle.session_lines.specs.Text.{room}
-use Rattle.session_lines.specs.declared.lines.Line.{Line}
+use Rattle.session_texts.specs.Text.{room}
+use Rattle.session_lines.specs.declared.Line.{Line}
 use Rattle.session_state.specs.declared.State.{State}
 use Rattle.session_rows.specs.Calls.{Written, only}
 use Rattle.session_rows.specs.Table.{rows, rowOf, rowWritten}

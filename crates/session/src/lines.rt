@@ -4,11 +4,11 @@ ghost use Rattle.session_rows.specs.Calls.{toldAnswered};
 ghost use Rattle.session.specs.File.{following};
 ghost use Rattle.session.specs.Reading.{rowHeld, heldWritten};
 use session_lines::LONGEST;
-use session_lines::nothing;
 use session_rows::Answered;
 use session_rows::ROWS;
 use session_rows::make;
 use session_state::State;
+use session_texts::nothing;
 
 // What a comment begins with.
 const HASH: u8 = b'#';

@@ -10,7 +10,7 @@ use lib.Dec.{eqb, ltb}
 use lib.IntN.{ℤ, pos, negsuc}
 use lib.Ieee.{Float, binary32, toBits}
 use Rattle.io.specs.Digits.{glyph, digits}
-use Rattle.session_lines.specs.Text.{room, lastDigits, decimalText, signedText, bitsText}
+use Rattle.session_texts.specs.Text.{room, lastDigits, decimalText, signedText, bitsText}
 use Rattle.session_words.specs.Bytes.{newline}
 use Rattle.session_words.specs.Words.{between}
 use Rattle.session_words.proofs.Lists.{take-again, drop-at, drop-end, between-more}

@@ -10,7 +10,7 @@ use lib.Dec.{eqb}
 use lib.IntN.{ℤ, pos}
 use Rattle.session_words.specs.Bytes.{bytesOf}
 use Rattle.session_words.specs.Words.{between}
-use Rattle.session_lines.specs.Text.{decimalText, signedText}
+use Rattle.session_texts.specs.Text.{decimalText, signedText}
 
 -- the letters `A`, `B` and `Z`
 abbrev pub letterA : ℕ

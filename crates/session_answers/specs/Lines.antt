@@ -10,7 +10,7 @@ use Rattle.choice_rules.specs.Choose.{Chosen, camp, read, noBeam}
 use Rattle.watch_rules.specs.Told.{Given, accepted, levels, wait, stay, moveTo}
 use Rattle.power_rules.specs.Calls.{ToSend}
 use Rattle.session_words.specs.Bytes.{bytesOf, newline}
-use Rattle.session_lines.specs.Text.{bitsText}
+use Rattle.session_texts.specs.Text.{bitsText}
 use Rattle.session_answers.specs.Filled.{filled, says}
 
 -- every line written ends with a newline

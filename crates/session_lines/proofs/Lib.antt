@@ -1,3 +1,2 @@
--- The laws behind the proofs of session files, in the order in which they stand on each other.
-mod Writing
-mod Signs
+-- The laws behind the proof of a line that grows.
+mod Sizes

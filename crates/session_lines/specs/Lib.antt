@@ -1,3 +1,2 @@
--- Session files (docs/session-format.md): their lines, and the text of an answer.
+-- Session files (docs/session-format.md): their lines.
 pub mod Lines
-pub mod Text

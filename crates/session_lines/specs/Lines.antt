@@ -5,7 +5,7 @@ use mathlib.Core.List.{List, [], _∷_, _++_}
 use lib.ListN.{length, take}
 use lib.Dec.{eqb, ltb}
 use Rattle.session_words.specs.Bytes.{newline}
-use Rattle.session_lines.specs.declared.lines.Line.{Line}
+use Rattle.session_lines.specs.declared.Line.{Line}
 
 -- the byte that begins a comment
 abbrev pub hash : ℕ

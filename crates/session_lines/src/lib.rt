@@ -1,39 +1,41 @@
-// How a session file is written: its lines, and the text of an answer. Its words are the crate `session_words`, the numbers among them
-// `session_numbers`.
+// The line that is being read: its bytes so far, as they come in blocks.
 ghost use mathlib.Core.Path.{_≡_};
-ghost use Prim.Native.Nat.{_+_, _≤_};
-ghost use lib.ListN.{length};
-ghost use lib.Seq.{paste};
-
-mod lines;
-mod text;
-
-pub use lines::Line;
-pub use lines::blank;
-pub use lines::with_more;
-pub use text::Text;
-pub use text::nothing;
-pub use text::put;
-pub use text::with;
-pub use text::with_bits;
-pub use text::with_decimal;
-pub use text::with_signed;
+ghost use mathlib.Core.List.{[]};
+ghost use Rattle.session_lines.specs.Lines.{kept, keptOf, withMore};
+use session_words::copy_to;
+use session_words::least;
 
 // The longest line that may be a call, without its newline.
 pub const LONGEST: usize = 200;
 
-// No answer is longer, with its newline.
-pub const ROOM: usize = 64;
+// The first `length` bytes are the line so far. A greater length than the longest stands for any such: its first bytes alone are kept.
+pub struct Line {
+    pub bytes: [u8; LONGEST],
+    pub length: usize,
+}
 
-// Copies the first n bytes of a slice into another from a place on.
-fn copy_to(dst: &mut [u8], at: usize, src: &[u8], n: usize)
-    requires { ⌜ at + n ≤ length (now dst) ⌝ }
-    requires { ⌜ n ≤ length (now src) ⌝ }
-    ensures { λ _. ⌜ now (dst .exit) ≡ paste (now (dst .entry)) at (now (src .entry)) n ⌝ }
+// A line of no bytes.
+pub fn blank() -> Line
+    ensures { λ r. ⌜ kept r ≡ keptOf [] ⌝ }
 {
-    let mut i = 0;
-    while i < n {
-        dst[at + i] = src[i];
-        i += 1;
+    Line {
+        bytes: [0; LONGEST],
+        length: 0,
+    }
+}
+
+// The line with more bytes.
+pub fn with_more(line: Line, more: &[u8]) -> Line
+    ensures { λ r. ⌜ kept r ≡ withMore (kept line) (now (more .entry)) ⌝ }
+{
+    let from = least(line.length, LONGEST);
+    let mut bytes = line.bytes;
+    let length = copy_to(&mut bytes, from, more);
+    if (line.length <= LONGEST) & (more.len() <= LONGEST - from) {
+        return Line { bytes, length };
+    }
+    Line {
+        bytes,
+        length: LONGEST + 1,
     }
 }

@@ -17,7 +17,7 @@ use Rattle.power_rules.specs.declared.PowerRecord.{PowerRecord}
 use Rattle.power_rules.specs.declared.PowerParameters.{PowerParameters}
 use Rattle.power_rules.specs.Calls.{started, stepped}
 use Rattle.session_answers.specs.Lines.{outcomeLine, choiceLine, watchLine, powerLine, errorLine}
-use Rattle.session_lines.specs.Text.{said}
+use Rattle.session_texts.specs.Text.{said}
 use Rattle.session_state.specs.declared.State.{State}
 use Rattle.session_rows.specs.declared.calls.Answered.{Answered}
 

@@ -13,8 +13,8 @@ use session_answers::of_choice;
 use session_answers::of_error;
 use session_answers::of_outcome;
 use session_answers::of_power;
-use session_lines::Text;
 use session_state::State;
+use session_texts::Text;
 use sweep::Sweep;
 
 // The channels that the sweep visits.

@@ -2,3 +2,4 @@
 pub mod Lists
 pub mod Runs
 pub mod Cuts
+pub mod Room

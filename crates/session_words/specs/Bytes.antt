@@ -1,9 +1,10 @@
--- Texts as bytes, and the test whether two words are the same.
-use Prim.Native.Nat.{ℕ}
+-- Texts as bytes, the test whether two words are the same, and how many bytes find room.
+use Prim.Native.Nat.{ℕ, _-_, min}
 use Prim.Native.Char.{code}
 use Prim.Native.String.{String, [] as []ᵗ, _∷_ as _∷ᵗ_}
 use mathlib.Core.Bool.{Bool, true, false, _&&_}
 use mathlib.Core.List.{List, [], _∷_}
+use lib.ListN.{length}
 use lib.Dec.{eqb}
 
 -- a text's bytes: the texts of a session file are ASCII, a byte to a character
@@ -25,3 +26,7 @@ alike [] [] = true
 alike [] (b ∷ t) = false
 alike (a ∷ s) [] = false
 alike (a ∷ s) (b ∷ t) = eqb a b && alike s t
+
+-- how many bytes of a text find room in a buffer from a place on
+abbrev pub fitting : List ℕ → List ℕ → ℕ → ℕ
+fitting s out at = min (length s) (length out - at)

@@ -1,8 +1,9 @@
-// The words of a line of a session file: what stands between its spaces.
+// The words of a line of a session file: what stands between its spaces. Bytes copied into a buffer, as far as there is room.
 ghost use mathlib.Core.Path.{_≡_};
-ghost use Prim.Native.Nat.{min};
+ghost use Prim.Native.Nat.{_+_, min};
 ghost use lib.ListN.{length};
-ghost use Rattle.session_words.specs.Bytes.{alike};
+ghost use lib.Seq.{paste};
+ghost use Rattle.session_words.specs.Bytes.{alike, fitting};
 ghost use Rattle.session_words.specs.Words.{wordsOf, wordAt};
 use bytes::scan::find;
 
@@ -16,6 +17,23 @@ pub fn least(a: usize, b: usize) -> usize
     ensures { λ r. ⌜ r ≡ min a b ⌝ }
 {
     if a < b { a } else { b }
+}
+
+// Copies a slice into another from a place on, as far as there is room, and answers the place after it.
+pub fn copy_to(dst: &mut [u8], at: usize, src: &[u8]) -> usize
+    ensures place { λ r. ⌜ r ≡ at + fitting (now (src .entry)) (now (dst .entry)) at ⌝ }
+    ensures bytes { λ _. ⌜ now (dst .exit) ≡ paste (now (dst .entry)) at (now (src .entry)) (fitting (now (src .entry)) (now (dst .entry)) at) ⌝ }
+{
+    if dst.len() < at {
+        return at;
+    }
+    let n = least(src.len(), dst.len() - at);
+    let mut i = 0;
+    while i < n {
+        dst[at + i] = src[i];
+        i += 1;
+    }
+    at + n
 }
 
 // Whether two words are the same bytes.

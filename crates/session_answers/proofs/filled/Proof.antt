@@ -8,7 +8,7 @@ use mir.Syntax.{w32}
 use mir.Val.{toZ, ofZ}
 use mir.ValLaws.{toZ-ofZ}
 use Rattle.session_words.specs.Words.{between}
-use Rattle.session_lines.specs.Text.{room, said}
+use Rattle.session_texts.specs.Text.{room, said}
 use Rattle.session_answers.specs.Filled.{filled}
 use Rattle.session_answers.specs.Lines.{line}
 use Rattle.session_answers.proofs.Room.{piece-at, filled-on, filled-end}

@@ -1,7 +1,7 @@
 -- `session_answers::float` meets its contract: 8 hex digits find room after the words.
 use native.Mathlib.Omega.{arith}
 use Rattle.session_words.specs.Bytes.{bytesOf}
-use Rattle.session_lines.specs.Text.{bitsText}
+use Rattle.session_texts.specs.Text.{bitsText}
 use Rattle.session_answers.proofs.Room.{bits-length, line-of-2}
 use borrow.Author.Needs.{needs}
 use Rattle.session_answers.proofs.float.Statement.{statement}

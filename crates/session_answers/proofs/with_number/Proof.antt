@@ -9,7 +9,7 @@ use mir.Syntax.{w32}
 use mir.ValLaws.{toZ-ofZ}
 use borrow.Author.Tests.{eq-eqb, ne-eqb}
 use Rattle.session_words.proofs.Lists.{cond-true, cond-false}
-use Rattle.session_lines.specs.Text.{room, said, signedText}
+use Rattle.session_texts.specs.Text.{room, said, signedText}
 use Rattle.session_answers.specs.Filled.{letterA, letterB}
 use Rattle.session_answers.proofs.Room.{last-letter}
 use borrow.Author.Needs.{needs}

@@ -12,9 +12,10 @@ use mir.Syntax.{w64}
 use mir.Val.{Fits}
 use borrow.Author.Tests.{ltb-true, leb-true}
 use Rattle.session_lines.specs.Lines.{longest}
-use Rattle.session_lines.specs.Text.{room, said, fitting}
-use Rattle.session_lines.specs.declared.text.Text.{Text}
-use Rattle.session_lines.specs.declared.lines.Line.{Line}
+use Rattle.session_words.specs.Bytes.{fitting}
+use Rattle.session_texts.specs.Text.{room, said}
+use Rattle.session_texts.specs.declared.Text.{Text}
+use Rattle.session_lines.specs.declared.Line.{Line}
 use Rattle.session_state.specs.declared.State.{State}
 use Rattle.watch_rules.specs.Told.{toldHanded}
 use Rattle.session_rows.specs.Calls.{Written, handedOver}

@@ -1,0 +1,3 @@
+-- The laws behind the proofs of texts.
+mod Writing
+mod Signs

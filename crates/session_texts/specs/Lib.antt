@@ -1,0 +1,2 @@
+-- Session files (docs/session-format.md): the text of an answer.
+pub mod Text
