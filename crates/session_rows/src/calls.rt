@@ -45,8 +45,7 @@ pub fn rest_missed(sweep: Sweep) -> Sweep
 pub fn file_in_sweep(state: State, channel: u16, burst: Burst) -> Answered
     ensures { λ r. ⌜ toldAnswered r ≡ sweepFiled channel burst state ⌝ }
 {
-    let before = state.sweep;
-    let filed = sweep::file(before, channel, burst);
+    let filed = sweep::file(state.sweep, channel, burst);
     let after = filed.sweep;
     let answer = filed.answer;
     let mut next = state;
@@ -80,9 +79,8 @@ pub fn set_outcome(state: State, number: u64, channel: u16, outcome: u8) -> Answ
 pub fn choose(state: State, margin: i32) -> Answered
     ensures { λ r. ⌜ toldAnswered r ≡ chosen margin state ⌝ }
 {
-    let sweep = state.sweep;
     let outcomes = state.outcomes;
-    let chosen = choice::choose(sweep, margin, &outcomes);
+    let chosen = choice::choose(state.sweep, margin, &outcomes);
     let answer = chosen.answer;
     Answered {
         state,
@@ -104,8 +102,7 @@ pub fn with_sweep(state: State, sweep: Sweep) -> Answered
 pub fn start_power(state: State) -> Answered
     ensures { λ r. ⌜ toldAnswered r ≡ powerStarted state ⌝ }
 {
-    let parameters = state.parameters;
-    let handed = power::start(parameters);
+    let handed = power::start(state.parameters);
     let after = handed.power;
     let answer = handed.answer;
     let mut next = state;
@@ -119,9 +116,7 @@ pub fn start_power(state: State) -> Answered
 pub fn step_power(state: State, decoded: Decoded, sqi: i32) -> Answered
     ensures { λ r. ⌜ toldAnswered r ≡ powerStepped decoded sqi state ⌝ }
 {
-    let parameters = state.parameters;
-    let before = state.power;
-    let stepped = power::step(parameters, before, decoded, sqi);
+    let stepped = power::step(state.parameters, state.power, decoded, sqi);
     let after = stepped.power;
     let answer = stepped.answer;
     let mut next = state;

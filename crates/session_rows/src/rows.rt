@@ -82,12 +82,11 @@ pub fn row_of(line: &[u8]) -> usize
 fn sweep_row(state: State, number: u64, row: usize, line: &[u8]) -> Answered
     ensures { λ r. ⌜ toldAnswered r ≡ rowAt sweepRows malformed row (wordsOf (now (line .entry))) number state ⌝ }
 {
-    let sweep = state.sweep;
     match row {
         0 => file_in_sweep(state, channel_at(line, 2), heard_at(line, 4)),
         1 => file_in_sweep(state, channel_at(line, 2), Burst::Missed),
         2 => {
-            let next = sweep::next(sweep);
+            let next = sweep::next(state.sweep);
             let answer = next.answer;
             Answered {
                 state,
@@ -95,7 +94,7 @@ fn sweep_row(state: State, number: u64, row: usize, line: &[u8]) -> Answered
             }
         }
         3 => {
-            let counts = sweep::counts(sweep);
+            let counts = sweep::counts(state.sweep);
             let answer = counts.answer;
             Answered {
                 state,
@@ -103,7 +102,7 @@ fn sweep_row(state: State, number: u64, row: usize, line: &[u8]) -> Answered
             }
         }
         4 => with_sweep(state, sweep::fresh()),
-        5 => with_sweep(state, rest_missed(sweep)),
+        5 => with_sweep(state, rest_missed(state.sweep)),
         6 => set_outcome(state, number, channel_at(line, 1), byte_at(line, 2)),
         7 => choose(state, int_at(line, 1)),
         _ => Answered {
@@ -181,8 +180,7 @@ pub fn make(state: State, number: u64, row: usize, line: &[u8]) -> Answered
     ensures { λ r. ⌜ toldAnswered r ≡ rowWritten row number state (wordsOf (now (line .entry))) ⌝ }
 {
     if row < WATCH_ROWS {
-        let before = state.watch;
-        let handed = watch_row(before, row, line);
+        let handed = watch_row(state.watch, row, line);
         let after = handed.watch;
         let answer = handed.answer;
         let mut next = state;

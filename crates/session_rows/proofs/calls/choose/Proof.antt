@@ -12,11 +12,11 @@ use Rattle.session_rows.proofs.calls.choose.Tie as tie
 returns : tie.Need-returns
 unfolding chosen
 returns c =
-    let s = c .before .before .before .before .before .args .state in
+    let s = c .before .before .before .before .args .state in
     ap (only s) (c .of-choice .ensures
     ∙ ap choiceLine (c .before .choose .ensures .1
     ∙ ap (λ m. choosing (s .sweep) m (s .outcomes))
-    (toZ-ofZ w32 (c .before .before .before .before .before .args .margin) (c .before .before .before .before .before .fits .margin))))
+    (toZ-ofZ w32 (c .before .before .before .before .args .margin) (c .before .before .before .before .fits .margin))))
 
 pub choose-spec : {M : Type 1} → statement M
 choose-spec =

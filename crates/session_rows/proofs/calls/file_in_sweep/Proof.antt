@@ -10,7 +10,7 @@ returns : tie.Need-returns
 unfolding sweepFiled
 returns c i =
     record {
-      state = withSweep (c .before .before .before .before .args .state) (c .before .before .file .ensures .0 i);
+      state = withSweep (c .before .before .before .args .state) (c .before .before .file .ensures .0 i);
       text = (c .of-outcome .ensures ∙ ap outcomeLine (c .before .before .file .ensures .1)) i;
     }
 

@@ -10,7 +10,7 @@ returns : tie.Need-returns
 unfolding powerStarted
 returns c i =
     record {
-      state = withPower (c .before .before .before .before .args .state) (c .before .before .start .ensures .0 i);
+      state = withPower (c .before .before .before .args .state) (c .before .before .start .ensures .0 i);
       text = (c .of-outcome .ensures ∙ ap outcomeLine (c .before .before .start .ensures .1)) i;
     }
 

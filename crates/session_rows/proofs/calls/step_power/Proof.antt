@@ -12,11 +12,11 @@ use Rattle.session_rows.proofs.calls.step_power.Tie as tie
 returns : tie.Need-returns
 unfolding powerStepped
 returns c i =
-    let a = c .before .before .before .before .before .args in
-    let n = toZ-ofZ w32 (c .before .before .before .before .before .args .sqi) (c .before .before .before .before .before .fits .sqi) in
+    let a = c .before .before .before .args in
+    let n = toZ-ofZ w32 (c .before .before .before .args .sqi) (c .before .before .before .fits .sqi) in
     record {
       state =
-          withPower (c .before .before .before .before .before .args .state) ((c .before .before .step .ensures .0
+          withPower (c .before .before .before .args .state) ((c .before .before .step .ensures .0
           ∙ ap (λ z. stepped (a .state .parameters) (a .state .power) (a .decoded) z .power) n) i);
       text =
           (c .of-power .ensures

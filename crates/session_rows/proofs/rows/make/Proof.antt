@@ -16,10 +16,10 @@ returns : tie.Need-returns
 unfolding watchRows handedOver
 returns c =
     let w = c .before .before in
-    let a = w .before .before .before .before .args in
+    let a = w .before .before .before .args in
     (λ i. record { state = withWatch (a .state) (w .watch-row .result .watch); text = c .of-watch .ensures i })
     ∙ ap (handedOver (a .state)) (w .watch-row .ensures)
-    ∙ on-watch (a .number) (a .state) (wordsOf (a .line .now)) (w .before .before .if1 .taken)
+    ∙ on-watch (a .number) (a .state) (wordsOf (a .line .now)) (w .before .if1 .taken)
 
 -- a row after those on the watch
 past-1 : (c : tie.Else1) → let a = c .before .before .args in

@@ -16,14 +16,14 @@ use borrow.Author.Needs.{needs, sfits-of}
 use Rattle.session_rows.proofs.rows.sweep_row.Statement.{statement}
 use Rattle.session_rows.proofs.rows.sweep_row.Tie as tie
 
-module _ (c : tie.After-sweep) where
+module _ (c : tie.After-shared-slice-known) where
   abbrev state : State
-  state = c .before .before .args .state
+  state = c .before .args .state
 
   -- the row of the number, as an arm of the match is told it
-  is : {k : ℕ} → c .before .before .args .row ≡ k → at (c .before .before .args .number) state (wordsOf (c .before .before .args .line .now)) sweepRows k
-      ≡ at (c .before .before .args .number) state (wordsOf (c .before .before .args .line .now)) sweepRows (c .before .before .args .row)
-  is e = row-is (c .before .before .args .number) state (wordsOf (c .before .before .args .line .now)) sweepRows e
+  is : {k : ℕ} → c .before .args .row ≡ k → at (c .before .args .number) state (wordsOf (c .before .args .line .now)) sweepRows k
+      ≡ at (c .before .args .number) state (wordsOf (c .before .args .line .now)) sweepRows (c .before .args .row)
+  is e = row-is (c .before .args .number) state (wordsOf (c .before .args .line .now)) sweepRows e
 
 returns : tie.Need-returns
 unfolding sweepRows
@@ -51,7 +51,7 @@ returns-7 c =
     let b = c .before in
     let k = b .before .before in
     c .set-outcome .ensures
-    ∙ ap₂ (λ n x. cond (channelInRange n) (outcomeSet n x (state (k .before))) (malformed (k .before .before .before .args .number) (state (k .before))))
+    ∙ ap₂ (λ n x. cond (channelInRange n) (outcomeSet n x (state (k .before))) (malformed (k .before .before .args .number) (state (k .before))))
     (b .before .channel-at3 .ensures) (b .byte-at .ensures)
     ∙ is (k .before) (k .match .keys7)
 
@@ -87,5 +87,5 @@ sweep-row-spec =
     returns-7
     returns-8
     (λ c.
-    let a = c .before .before .before .before .args in
+    let a = c .before .before .before .args in
     ap (only (a .state)) (c .of-error .ensures) ∙ no-row (a .number) (a .state) (wordsOf (a .line .now)) sweepRows (a .row) (c .before .match .rest)))
