@@ -1,4 +1,4 @@
--- `session_lines::text::bits_of` meets its contract: a float that does not equal itself is a NaN.
+-- `session_texts::bits_of` meets its contract: a float that does not equal itself is a NaN.
 use mathlib.Core.Path.{ap}
 use lib.Ieee.{binary32, toBits}
 use Rattle.session_texts.proofs.Writing.{no-nan, is-nan}

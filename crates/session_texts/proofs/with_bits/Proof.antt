@@ -1,4 +1,4 @@
--- `session_lines::text::with_bits` meets its contract: a number of 32 bits takes 8 hex digits.
+-- `session_texts::with_bits` meets its contract: a number of 32 bits takes 8 hex digits.
 use mathlib.Core.Path.{_≡_, ap, ap₂, _∙_}
 use mathlib.Core.List.{_++_}
 use native.Mathlib.Omega.{arith}

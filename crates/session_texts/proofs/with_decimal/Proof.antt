@@ -1,4 +1,4 @@
--- `session_lines::text::with_decimal` meets its contract: the fewest digits that hold a number are its decimal digits.
+-- `session_texts::with_decimal` meets its contract: the fewest digits that hold a number are its decimal digits.
 use mathlib.Core.Path.{ap, _∙_}
 use mathlib.Core.List.{_++_}
 use lib.ListN.{take}

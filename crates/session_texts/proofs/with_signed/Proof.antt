@@ -1,4 +1,4 @@
--- `session_lines::text::with_signed` meets its contract: below 0, the size after a minus sign.
+-- `session_texts::with_signed` meets its contract: below 0, the size after a minus sign.
 use mathlib.Core.Bool.{true, false}
 use lib.Dec.{T}
 use lib.IntN.{pos, natAbs, negℤ, _-ℤ_}
