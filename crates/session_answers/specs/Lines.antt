@@ -1,6 +1,6 @@
 -- Session files, section Calls and what they write: the line of each answer, over what is told of it.
 use Prim.Native.Nat.{ℕ}
-use mathlib.Core.List.{List, [], _∷_, _++_}
+use mathlib.Core.List.{List, _++_}
 use lib.IntN.{ℤ, natAbs}
 use lib.Ieee.{Float}
 use Rattle.refusal.specs.Told.{Told, gives, refused}
@@ -9,13 +9,9 @@ use Rattle.sweep_rules.specs.Counts.{Counts}
 use Rattle.choice_rules.specs.Choose.{Chosen, camp, read, noBeam}
 use Rattle.watch_rules.specs.Told.{Given, accepted, levels, wait, stay, moveTo}
 use Rattle.power_rules.specs.Calls.{ToSend}
-use Rattle.session_words.specs.Bytes.{bytesOf, newline}
+use Rattle.session_words.specs.Bytes.{bytesOf}
 use Rattle.session_texts.specs.Text.{bitsText}
-use Rattle.session_answers.specs.Filled.{filled, says}
-
--- every line written ends with a newline
-abbrev pub line : List ℕ → List ℕ
-line text = text ++ (newline ∷ [])
+use Rattle.session_templates.specs.Filled.{line, filled, says}
 
 abbrev pub refusedText : ℕ → List ℕ
 refusedText n = says "refused A" n 0

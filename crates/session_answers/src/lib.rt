@@ -1,9 +1,6 @@
 // Each answer of the library as the line that a session file's answers are written as, with its newline.
 ghost use mathlib.Core.Path.{_≡_};
-ghost use mathlib.Core.List.{[], _∷_, _++_};
-ghost use Prim.Native.Nat.{_<_, _≤_};
-ghost use mathlib.Core.Bool.{true};
-ghost use lib.ListN.{length, take};
+ghost use Prim.Native.Nat.{_<_};
 ghost use Rattle.refusal.specs.Number.{numberOf};
 ghost use Rattle.refusal.specs.Told.{toldOutcome};
 ghost use Rattle.readings_rules.specs.Told.{toldHundredths, toldShown};
@@ -11,104 +8,41 @@ ghost use Rattle.sweep_rules.specs.Told.{toldNext, toldNumbers};
 ghost use Rattle.choice_rules.specs.Told.{toldChoice};
 ghost use Rattle.watch_rules.specs.Told.{told};
 ghost use Rattle.power_rules.specs.Told.{toldAnswer};
-ghost use Rattle.session_words.specs.Bytes.{newline};
 ghost use Rattle.session_texts.specs.Text.{room, said};
-ghost use Rattle.session_answers.specs.Lines.{line, acceptedText, refusedText, floatText};
-ghost use Rattle.session_answers.specs.Filled.{standsFor, piece, filled, Run, widest};
+ghost use Rattle.session_templates.specs.Filled.{line, filled, widest};
+ghost use Rattle.session_answers.specs.Lines.{acceptedText, refusedText, floatText};
 ghost use Rattle.session_answers.specs.Lines.{outcomeLine, hundredthsLine, floatLine, nextLine, countsLine, choiceLine, watchLine, powerLine, errorLine};
 use choice_rules::Choice;
 use readings_rules::Hundredths;
 use readings_rules::Shown;
 use refusal::Outcome;
 use refusal::Refusal;
+use session_templates::ended;
 use session_texts::Text;
 use session_texts::nothing;
 use session_texts::with;
 use session_texts::with_bits;
-use session_texts::with_decimal;
-use session_texts::with_signed;
 use sweep_rules::NextChannel;
 use sweep_rules::Numbers;
 
-// The letters of a template: two numbers, and one with a sign.
-const FIRST: u8 = b'A';
-
-const SECOND: u8 = b'B';
-
-const SIGNED: u8 = b'Z';
-
-// The text with a newline after it.
-fn ended(text: Text) -> Text
-    ensures { λ r. ⌜ said r ≡ take room (said text ++ (newline ∷ [])) ⌝ }
-{
-    with(text, b"\n")
-}
-
-// Whether a byte of a template stands for a number.
-fn is_number(letter: u8) -> bool
-    ensures { λ r. ⌜ r ≡ standsFor letter ⌝ }
-{
-    (letter == FIRST) | (letter == SECOND) | (letter == SIGNED)
-}
-
-// Where the bytes of a template from a place on that stand for themselves end.
-fn run_end(template: &[u8], from: usize) -> usize
-    requires { ⌜ from ≤ length (now template) ⌝ }
-    ensures { λ r. ⌜ Run (now (template .entry)) from r ⌝ }
-{
-    let mut i = from;
-    while i < template.len() {
-        if is_number(template[i]) {
-            return i;
-        }
-        i += 1;
-    }
-    i
-}
-
-// The text with the number after it that a letter of a template stands for.
-fn with_number(text: Text, letter: u8, a: u64, b: u64, z: i32) -> Text
-    requires { ⌜ standsFor letter ≡ true ⌝ }
-    ensures { λ r. ⌜ said r ≡ take room (said text ++ piece a b z letter) ⌝ }
-{
-    if letter == FIRST {
-        return with_decimal(text, a);
-    }
-    if letter == SECOND {
-        return with_decimal(text, b);
-    }
-    with_signed(text, z)
-}
-
-// The line of a template: `A` and `B` stand for the numbers, and `Z` for the one with a sign. It finds room whatever the numbers are: none has
-// more than 20 digits.
-fn filled(template: &[u8], a: u64, b: u64, z: i32) -> Text
+// The whole line of a template. It finds room whatever the numbers are: none has more than 20 digits.
+fn whole_line(template: &[u8], a: u64, b: u64, z: i32) -> Text
     requires { ⌜ widest (now template) < room ⌝ }
     ensures { λ r. ⌜ said r ≡ line (filled (now (template .entry)) a b z) ⌝ }
 {
-    let mut text = nothing();
-    let mut at = 0;
-    loop {
-        let end = run_end(template, at);
-        text = with(text, &template[at..end]);
-        if end == template.len() {
-            return ended(text);
-        }
-        text = with_number(text, template[end], a, b, z);
-        at = end + 1;
-    }
+    session_templates::filled(template, a, b, z)
 }
 
 fn accepted() -> Text
     ensures { λ r. ⌜ said r ≡ line acceptedText ⌝ }
 {
-    filled(b"accepted", 0, 0, 0)
+    whole_line(b"accepted", 0, 0, 0)
 }
 
 fn refused(why: Refusal) -> Text
     ensures { λ r. ⌜ said r ≡ line (refusedText (numberOf why)) ⌝ }
 {
-    filled(b"refused A", refusal::number(why) as u64, 0, 0)
+    whole_line(b"refused A", refusal::number(why) as u64, 0, 0)
 }
 
 fn float(x: f32) -> Text
@@ -132,7 +66,7 @@ pub fn of_hundredths(answer: Hundredths) -> Text
     ensures { λ r. ⌜ said r ≡ hundredthsLine (toldHundredths answer) ⌝ }
 {
     match answer {
-        Hundredths::Value(h) => filled(b"hundredths Z", 0, 0, h),
+        Hundredths::Value(h) => whole_line(b"hundredths Z", 0, 0, h),
         Hundredths::Refused(why) => refused(why),
     }
 }
@@ -152,8 +86,8 @@ pub fn of_next(answer: NextChannel) -> Text
     ensures { λ r. ⌜ said r ≡ nextLine (toldNext answer) ⌝ }
 {
     match answer {
-        NextChannel::Channel(c) => filled(b"next A", c as u64, 0, 0),
-        NextChannel::Done => filled(b"done", 0, 0, 0),
+        NextChannel::Channel(c) => whole_line(b"next A", c as u64, 0, 0),
+        NextChannel::Done => whole_line(b"done", 0, 0, 0),
         NextChannel::Refused(why) => refused(why),
     }
 }
@@ -163,7 +97,7 @@ pub fn of_counts(answer: Numbers) -> Text
     ensures { λ r. ⌜ said r ≡ countsLine (toldNumbers answer) ⌝ }
 {
     match answer {
-        Numbers::Of { visited, heard } => filled(
+        Numbers::Of { visited, heard } => whole_line(
             b"visited A heard B",
             visited as u64,
             heard as u64,
@@ -178,19 +112,19 @@ pub fn of_choice(answer: Choice) -> Text
     ensures { λ r. ⌜ said r ≡ choiceLine (toldChoice answer) ⌝ }
 {
     match answer {
-        Choice::Camp { channel, tried } => filled(
+        Choice::Camp { channel, tried } => whole_line(
             b"camp A tried B",
             channel as u64,
             tried as u64,
             0,
         ),
-        Choice::Read { channel, tried } => filled(
+        Choice::Read { channel, tried } => whole_line(
             b"read A tried B",
             channel as u64,
             tried as u64,
             0,
         ),
-        Choice::NoBeam { tried } => filled(b"no beam tried A", tried as u64, 0, 0),
+        Choice::NoBeam { tried } => whole_line(b"no beam tried A", tried as u64, 0, 0),
         Choice::Refused(why) => refused(why),
     }
 }
@@ -202,15 +136,15 @@ pub fn of_watch(answer: watch_rules::Answer) -> Text
     match answer {
         watch_rules::Answer::Accepted => accepted(),
         watch_rules::Answer::Refused(why) => refused(why),
-        watch_rules::Answer::Levels { count, mean } => filled(
+        watch_rules::Answer::Levels { count, mean } => whole_line(
             b"count A mean Z",
             count as u64,
             0,
             mean,
         ),
-        watch_rules::Answer::Wait => filled(b"wait", 0, 0, 0),
-        watch_rules::Answer::Stay => filled(b"stay", 0, 0, 0),
-        watch_rules::Answer::MoveTo(c) => filled(b"move A", c as u64, 0, 0),
+        watch_rules::Answer::Wait => whole_line(b"wait", 0, 0, 0),
+        watch_rules::Answer::Stay => whole_line(b"stay", 0, 0, 0),
+        watch_rules::Answer::MoveTo(c) => whole_line(b"move A", c as u64, 0, 0),
     }
 }
 
@@ -219,7 +153,12 @@ pub fn of_power(answer: power_rules::Answer) -> Text
     ensures { λ r. ⌜ said r ≡ powerLine (toldAnswer answer) ⌝ }
 {
     match answer {
-        power_rules::Answer::Send { par, pan } => filled(b"par A pan B", par as u64, pan as u64, 0),
+        power_rules::Answer::Send { par, pan } => whole_line(
+            b"par A pan B",
+            par as u64,
+            pan as u64,
+            0,
+        ),
         power_rules::Answer::Refused(why) => refused(why),
     }
 }
@@ -228,5 +167,5 @@ pub fn of_power(answer: power_rules::Answer) -> Text
 pub fn of_error(line: u64) -> Text
     ensures { λ r. ⌜ said r ≡ errorLine line ⌝ }
 {
-    filled(b"error line A", line, 0, 0)
+    whole_line(b"error line A", line, 0, 0)
 }

@@ -2,7 +2,7 @@
 use native.Mathlib.Omega.{arith}
 use Rattle.session_words.specs.Bytes.{bytesOf}
 use Rattle.session_texts.specs.Text.{bitsText}
-use Rattle.session_answers.proofs.Room.{bits-length, line-of-2}
+use Rattle.session_templates.proofs.Room.{bits-length, line-of-2}
 use borrow.Author.Needs.{needs}
 use Rattle.session_answers.proofs.float.Statement.{statement}
 use Rattle.session_answers.proofs.float.Tie as tie

@@ -1,4 +1,4 @@
--- `session_answers::with_number` meets its contract: the first number, the second, or the one with a sign.
+-- `session_templates::with_number` meets its contract: the first number, the second, or the one with a sign.
 use Prim.Native.Nat.{ℕ}
 use mathlib.Core.Path.{_≡_, sym, ap, _∙_}
 use mathlib.Core.Bool.{false}
@@ -10,11 +10,11 @@ use mir.ValLaws.{toZ-ofZ}
 use borrow.Author.Tests.{eq-eqb, ne-eqb}
 use Rattle.session_words.proofs.Lists.{cond-true, cond-false}
 use Rattle.session_texts.specs.Text.{room, said, signedText}
-use Rattle.session_answers.specs.Filled.{letterA, letterB}
-use Rattle.session_answers.proofs.Room.{last-letter}
+use Rattle.session_templates.specs.Filled.{letterA, letterB}
+use Rattle.session_templates.proofs.Room.{last-letter}
 use borrow.Author.Needs.{needs}
-use Rattle.session_answers.proofs.with_number.Statement.{statement}
-use Rattle.session_answers.proofs.with_number.Tie as tie
+use Rattle.session_templates.proofs.with_number.Statement.{statement}
+use Rattle.session_templates.proofs.with_number.Tie as tie
 
 -- the text with something after it
 abbrev after : tie.Start → List ℕ → List ℕ

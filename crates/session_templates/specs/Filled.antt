@@ -1,5 +1,5 @@
--- The text of an answer by its template: `A` and `B` stand for its numbers, and `Z` for one that may be below 0. A number that has no letter there is
--- not written.
+-- The text of an answer by its template, and its line: `A` and `B` stand for its numbers, and `Z` for one that may be below 0. A number that has no
+-- letter there is not written.
 use Prim.Native.Nat.{ℕ, _+_, _≤_, _<_}
 use Prim.Native.String.{String}
 use mathlib.Core.Path.{_≡_}
@@ -8,7 +8,7 @@ use mathlib.Core.List.{List, [], _∷_, _++_}
 use lib.ListN.{length, getD, drop}
 use lib.Dec.{eqb}
 use lib.IntN.{ℤ, pos}
-use Rattle.session_words.specs.Bytes.{bytesOf}
+use Rattle.session_words.specs.Bytes.{bytesOf, newline}
 use Rattle.session_words.specs.Words.{between}
 use Rattle.session_texts.specs.Text.{decimalText, signedText}
 
@@ -60,3 +60,7 @@ widest (x ∷ t) = wide x + widest t
 -- a template with its numbers, none of them below 0
 abbrev pub says : String → ℕ → ℕ → List ℕ
 says t a b = filled (bytesOf t) a b (pos 0)
+
+-- every line written ends with a newline
+abbrev pub line : List ℕ → List ℕ
+line text = text ++ (newline ∷ [])

@@ -1,7 +1,7 @@
--- `session_answers::ended` meets its contract: one byte more, the newline.
+-- `session_templates::ended` meets its contract: one byte more, the newline.
 use borrow.Author.Needs.{needs}
-use Rattle.session_answers.proofs.ended.Statement.{statement}
-use Rattle.session_answers.proofs.ended.Tie as tie
+use Rattle.session_templates.proofs.ended.Statement.{statement}
+use Rattle.session_templates.proofs.ended.Tie as tie
 
 returns : tie.Need-returns
 returns c = c .with .ensures

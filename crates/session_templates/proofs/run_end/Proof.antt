@@ -1,13 +1,13 @@
--- `session_answers::run_end` meets its contract. The invariant: the bytes up to `i` stand for themselves.
+-- `session_templates::run_end` meets its contract. The invariant: the bytes up to `i` stand for themselves.
 use Prim.Native.Nat.{_-_, _≤_}
 use mathlib.Core.Path.{sym, _∙_}
 use native.Mathlib.Omega.{arith}
 use lib.ListN.{length}
-use Rattle.session_answers.specs.Filled.{Plain}
-use Rattle.session_answers.proofs.Room.{plain-none, plain-on}
+use Rattle.session_templates.specs.Filled.{Plain}
+use Rattle.session_templates.proofs.Room.{plain-none, plain-on}
 use borrow.Author.Needs.{needs}
-use Rattle.session_answers.proofs.run_end.Statement.{statement}
-use Rattle.session_answers.proofs.run_end.Tie as tie
+use Rattle.session_templates.proofs.run_end.Statement.{statement}
+use Rattle.session_templates.proofs.run_end.Tie as tie
 
 abbrev Inv-loop : tie.InvT-loop
 Inv-loop template from i₀ i = (from ≤ i) × (i ≤ length template) × Plain template from i

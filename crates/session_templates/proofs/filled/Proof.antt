@@ -1,4 +1,4 @@
--- `session_answers::filled` meets its contract: a run of bytes that stand for themselves, then a number, and so on.
+-- `session_templates::filled` meets its contract: a run of bytes that stand for themselves, then a number, and so on.
 use Prim.Native.Nat.{_≤_, _<_, _-_, _+_}
 use mathlib.Core.Path.{_≡_, sym, ap, _∙_}
 use mathlib.Core.List.{_++_}
@@ -9,12 +9,11 @@ use mir.Val.{toZ, ofZ}
 use mir.ValLaws.{toZ-ofZ}
 use Rattle.session_words.specs.Words.{between}
 use Rattle.session_texts.specs.Text.{room, said}
-use Rattle.session_answers.specs.Filled.{filled}
-use Rattle.session_answers.specs.Lines.{line}
-use Rattle.session_answers.proofs.Room.{piece-at, filled-on, filled-end}
+use Rattle.session_templates.specs.Filled.{line, filled}
+use Rattle.session_templates.proofs.Room.{piece-at, filled-on, filled-end}
 use borrow.Author.Needs.{needs}
-use Rattle.session_answers.proofs.filled.Statement.{statement}
-use Rattle.session_answers.proofs.filled.Tie as tie
+use Rattle.session_templates.proofs.filled.Statement.{statement}
+use Rattle.session_templates.proofs.filled.Tie as tie
 
 abbrev Inv-loop : tie.InvT-loop
 Inv-loop template a b z text₀ at₀ text at =
@@ -57,8 +56,8 @@ returns c =
     let a = start w .args in
     filled-end (a .a) (a .b) (toZ w32 (ofZ w32 (a .z))) (a .template .now) (run w .run-end .result) (said (w .with .result))
     (omega (arith, c .before .if1 .taken))
-    (start w .pre) (written w) (c .ended .ensures)
-    ∙ ap (λ z. line (filled (a .template .now) (a .a) (a .b) z)) (toZ-ofZ w32 (a .z) (start w .fits .z))
+    (written w) (c .ended .ensures)
+    ∙ ap (λ z. take room (line (filled (a .template .now) (a .a) (a .b) z))) (toZ-ofZ w32 (a .z) (start w .fits .z))
 
 inside : (c : tie.Else1 Inv-loop μ-loop) → run (c .before) .run-end .result < length (start (c .before) .args .template .now)
 inside c = omega (arith, run (c .before) .run-end .ensures .within, c .if1 .left)

@@ -1,4 +1,4 @@
--- What is written word by word is the whole line, since no answer is longer than the room for it.
+-- What is written part by part is the line, as far as there is room; and the whole line, where its template is not too wide.
 use Prim.Native.Nat.{ℕ, zero, suc, _+_, _-_, _/_, _%_, _≤_, _<_}
 use mathlib.Core.Path.{_≡_, refl, sym, ap, _∙_}
 use mathlib.Core.Bool.{Bool, true, false, cond, _||_, true≢false}
@@ -14,8 +14,7 @@ use Rattle.session_texts.specs.Text.{room, lastDigits, decimalText, signedText,
 use Rattle.session_words.specs.Bytes.{newline}
 use Rattle.session_words.specs.Words.{between}
 use Rattle.session_words.proofs.Lists.{take-again, drop-at, drop-end, between-more}
-use Rattle.session_answers.specs.Filled.{letterA, letterB, letterZ, standsFor, piece, filled, Plain, wide, widest}
-use Rattle.session_answers.specs.Lines.{line}
+use Rattle.session_templates.specs.Filled.{letterA, letterB, letterZ, standsFor, piece, filled, Plain, wide, widest, line}
 
 -- ---- the most bytes of a number
 
@@ -28,10 +27,10 @@ last-most (suc k) n = rw length-append (go (ltb n 10) (last-most k (n / 10)))
     go true h = omega arith
     go false h = omega arith
 
-pub decimal-most : (n : ℕ) → length (decimalText n) ≤ 20
+decimal-most : (n : ℕ) → length (decimalText n) ≤ 20
 decimal-most n = last-most 20 n
 
-pub signed-most : (z : ℤ) → length (signedText z) ≤ 21
+signed-most : (z : ℤ) → length (signedText z) ≤ 21
 signed-most (pos n) = omega (arith, decimal-most n)
 signed-most (negsuc n) = omega (arith, decimal-most (suc n))
 
@@ -50,12 +49,13 @@ begun a none e = e ∙ ap (λ x. take room (x ++ a)) none
 further : (a b : List ℕ) {t u : List ℕ} → t ≡ take room a → u ≡ take room (t ++ b) → u ≡ take room (a ++ b)
 further a b before e = e ∙ ap (λ x. take room (x ++ b)) before ∙ take-again room a b
 
-ended : (a : List ℕ) {t r : List ℕ} → t ≡ take room a → r ≡ take room (t ++ (newline ∷ [])) → length a < room → r ≡ line a
-ended a before e short = further a (newline ∷ []) before e ∙ take-all room (line a) (rw length-append (omega arith))
+whole : (a : List ℕ) → length a < room → take room (line a) ≡ line a
+whole a short = take-all room (line a) (rw length-append (omega arith))
 
-pub line-of-2 : (a b : List ℕ) {n t u r : List ℕ} → n ≡ [] → t ≡ take room (n ++ a) → u ≡ take room (t ++ b) → r ≡ take room (u ++ (newline ∷ []))
+pub line-of-2 : (a b : List ℕ) {n t u r : List ℕ} → n ≡ [] → t ≡ take room (n ++ a) → u ≡ take room (t ++ b) → r ≡ take room (line u)
     → length a + length b < room → r ≡ line (a ++ b)
-line-of-2 a b none e f end short = ended (a ++ b) (further a b (begun a none e) f) end (rw length-append short)
+line-of-2 a b none e f end short =
+    further (a ++ b) (newline ∷ []) (further a b (begun a none e) f) end ∙ whole (a ++ b) (rw length-append short)
 
 -- ---- a line by its template
 
@@ -98,16 +98,18 @@ module _ (a b : ℕ) (z : ℤ) where
         ∙ ap (λ y. take room (y ++ filled (drop j t) a b z)) (sym e)
 
     -- all of it, with the newline
-    pub filled-end : (i : ℕ) (x : List ℕ) {r : List ℕ} → length t ≤ i → widest t < room
-        → take room (filled t a b z) ≡ take room (x ++ filled (drop i t) a b z) → r ≡ take room (x ++ (newline ∷ [])) → r ≡ line (filled t a b z)
-    filled-end i x {r} over short so-far e =
-        let short2 : length (filled t a b z) < room = omega (arith, filled-most t) in
+    pub filled-end : (i : ℕ) (x : List ℕ) {r : List ℕ} → length t ≤ i → take room (filled t a b z) ≡ take room (x ++ filled (drop i t) a b z)
+        → r ≡ take room (line x) → r ≡ take room (line (filled t a b z))
+    filled-end i x over so-far e =
         let all : take room (filled t a b z) ≡ take room x
         = so-far ∙ ap (λ d. take room (x ++ filled d a b z)) (drop-end t i over) ∙ ap (take room) (append-nil x) in
         e ∙ sym (take-again room x (newline ∷ []))
-        ∙ ap (λ y. take room (y ++ (newline ∷ []))) (sym all)
+        ∙ ap (λ y. take room (line y)) (sym all)
         ∙ take-again room (filled t a b z) (newline ∷ [])
-        ∙ take-all room (line (filled t a b z)) (rw length-append (omega arith))
+
+    -- which finds room where the template is not too wide
+    pub fits : widest t < room → take room (line (filled t a b z)) ≡ line (filled t a b z)
+    fits short = whole (filled t a b z) (omega (arith, filled-most t))
 
 -- ---- the bytes of a template that stand for themselves
 

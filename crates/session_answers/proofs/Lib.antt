@@ -1,2 +1,0 @@
--- The laws behind the proofs of the answers' lines.
-pub mod Room

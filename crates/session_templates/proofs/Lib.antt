@@ -1,0 +1,2 @@
+-- The laws behind the proofs of lines by their templates.
+pub mod Room
