@@ -11,7 +11,8 @@ use Rattle.session_calls.specs.Grammar.{fitsWord, fits}
 use Rattle.session_calls.specs.Table.{textOf}
 use Rattle.session_calls.proofs.Apart.{differ, fromAll, allDiffer, one-row}
 use Rattle.session_watch.specs.Rows.{watchRows}
-use Rattle.session_rows.specs.Table.{sweepRows, powerRows, readingRows, table, rows}
+use Rattle.session_sweep.specs.Rows.{sweepRows}
+use Rattle.session_rows.specs.Table.{choiceRows, powerRows, readingRows, table, rows}
 use Rattle.session_rows.specs.Claims.{OneRow}
 
 -- the words of each row
@@ -19,7 +20,7 @@ abbrev words : List (List (List ℕ))
 words = map wordsOf (map textOf table)
 
 computed : allDiffer words ≡ true
-unfolding table watchRows sweepRows powerRows readingRows allDiffer fromAll differ wordsOf alike fitsWord naturalOf wholeOf withSign digitsOf allDigits
+unfolding table watchRows sweepRows choiceRows powerRows readingRows allDiffer fromAll differ wordsOf alike fitsWord naturalOf wholeOf withSign digitsOf allDigits
 computed = refl
 
 pub oneRow : OneRow

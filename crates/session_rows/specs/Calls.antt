@@ -1,13 +1,10 @@
 -- Session files, section Calls: what a call does to the state, and the line that it writes.
-use Prim.Native.Nat.{ℕ, zero, suc}
+use Prim.Native.Nat.{ℕ}
 use mathlib.Core.List.{List}
 use lib.ListN.{set}
 use Rattle.refusal.specs.Told.{accepted}
 use lib.IntN.{ℤ}
-use Rattle.readings_rules.specs.declared.Burst.{Burst}
-use Rattle.readings_rules.specs.declared.Burst.the-variants.{Missed}
 use Rattle.sweep_rules.specs.declared.Sweep.{Sweep}
-use Rattle.sweep_rules.specs.Filing.{filing, leaves, answers}
 use Rattle.choice_rules.specs.Choose.{choosing}
 use Rattle.watch_rules.specs.declared.Watch.{Watch}
 use Rattle.watch_rules.specs.Told.{Call, Called}
@@ -19,6 +16,7 @@ use Rattle.power_rules.specs.Calls.{started, stepped}
 use Rattle.session_answers.specs.Lines.{outcomeLine, choiceLine, watchLine, powerLine, errorLine}
 use Rattle.session_texts.specs.Text.{said}
 use Rattle.session_state.specs.declared.State.{State}
+use Rattle.session_sweep.specs.Rows.{SweepWritten}
 use Rattle.session_rows.specs.declared.calls.Answered.{Answered}
 
 -- the state after a line, and the text that the line writes
@@ -54,15 +52,6 @@ withPower s x = record { sweep = s .sweep; outcomes = s .outcomes; watch = s .wa
 abbrev pub withParameters : State → PowerParameters → State
 withParameters s x = record { sweep = s .sweep; outcomes = s .outcomes; watch = s .watch; power = s .power; parameters = x }
 
--- "missed" filed for each of n channels from c on: one that was visited is refused, and the record stays as it was
-unfoldable pub missedFrom : ℕ → ℕ → Sweep → Sweep
-missedFrom zero c s = s
-missedFrom (suc n) c s = missedFrom n (suc c) (leaves s (filing s c Missed))
-
--- a result filed in the sweep
-unfoldable pub sweepFiled : ℕ → Burst → State → Written
-sweepFiled c b s = record { state = withSweep s (leaves (s .sweep) (filing (s .sweep) c b)); text = outcomeLine (answers (filing (s .sweep) c b)) }
-
 -- the outcome byte of a channel
 unfoldable pub outcomeSet : ℕ → ℕ → State → Written
 outcomeSet c b s = accepts (withOutcomes s (set (s .outcomes) c b))
@@ -77,6 +66,13 @@ handedOver s h = record { state = withWatch s (h .watch); text = watchLine (h .a
 
 abbrev pub watching : Call → State → Written
 watching k s = handedOver s (called (s .watch) k)
+
+-- what a call on the sweep does and writes
+unfoldable pub sweptOver : State → SweepWritten → Written
+sweptOver s w = record { state = withSweep s (w .sweep); text = w .text }
+
+abbrev pub sweeping : (Sweep → SweepWritten) → State → Written
+sweeping k s = sweptOver s (k (s .sweep))
 
 -- a start and a step of the power record use the parameters that are set
 unfoldable pub powerStarted : State → Written

@@ -4,37 +4,28 @@ use Prim.Native.Nat.{ℕ}
 use mathlib.Core.Bool.{cond}
 use mathlib.Core.List.{List, [], _∷_, _++_, map}
 use lib.ListN.{length}
-use Rattle.readings_rules.specs.declared.Burst.the-variants.{Missed}
 use Rattle.readings_rules.specs.Channels.{channelInRange}
 use Rattle.readings_rules.specs.Hundredths.{levelOf, qualityOf}
 use Rattle.readings_rules.specs.Float.{levelShown, qualityShown}
-use Rattle.sweep_rules.specs.Record.{firstSwept, sweptChannels, freshSweep}
-use Rattle.sweep_rules.specs.Next.{nextTold}
-use Rattle.sweep_rules.specs.Counts.{countsTold}
 use Rattle.power_rules.specs.declared.Decoded.the-variants.{Failed, Codes}
 use Rattle.session_words.specs.Words.{wordsOf}
 use Rattle.session_calls.specs.Grammar.{firstFit}
 use Rattle.session_values.specs.Values.{CH, BYTE, INT, NUM}
 use Rattle.session_calls.specs.Table.{Row, _asks_, turned, textOf, firstOf, rowAt}
-use Rattle.session_answers.specs.Lines.{hundredthsLine, floatLine, nextLine, countsLine}
+use Rattle.session_answers.specs.Lines.{hundredthsLine, floatLine}
 use Rattle.session_state.specs.declared.State.{State}
-use Rattle.session_watch.specs.Rows.{heard, watchRows}
-use Rattle.session_rows.specs.Calls.{Written, only, accepts, withSweep, withParameters, missedFrom, sweepFiled, outcomeSet, chosen, watching}
+use Rattle.session_watch.specs.Rows.{watchRows}
+use Rattle.session_sweep.specs.Rows.{sweepRows}
+use Rattle.session_rows.specs.Calls.{Written, only, accepts, withParameters, outcomeSet, chosen, watching, sweeping}
 use Rattle.session_rows.specs.Calls.{powerStarted, powerStepped, malformed}
 
 abbrev pub Rows : Type 0
 Rows = List (Row (ℕ → State → Written))
 
 -- an outcome byte is set for a channel 0 to 1,087: another is an error
-unfoldable pub sweepRows : Rows
-sweepRows =
-    ("sweep file CH heard NUM NUM" asks λ ws n s. sweepFiled (CH ws 2) (heard ws 4) s)
-    ∷ ("sweep file CH missed" asks λ ws n s. sweepFiled (CH ws 2) Missed s)
-    ∷ ("sweep next" asks λ ws n s. only s (nextLine (nextTold (s .sweep))))
-    ∷ ("sweep counts" asks λ ws n s. only s (countsLine (countsTold (s .sweep))))
-    ∷ ("sweep fresh" asks λ ws n s. accepts (withSweep s freshSweep))
-    ∷ ("sweep rest missed" asks λ ws n s. accepts (withSweep s (missedFrom sweptChannels firstSwept (s .sweep))))
-    ∷ ("outcome CH BYTE" asks λ ws n s. cond (channelInRange (CH ws 1)) (outcomeSet (CH ws 1) (BYTE ws 2) s) (malformed n s))
+unfoldable pub choiceRows : Rows
+choiceRows =
+    ("outcome CH BYTE" asks λ ws n s. cond (channelInRange (CH ws 1)) (outcomeSet (CH ws 1) (BYTE ws 2) s) (malformed n s))
     ∷ ("choose INT" asks λ ws n s. chosen (INT ws 1) s)
     ∷ []
 
@@ -68,9 +59,13 @@ readingRows =
     ∷ ("show quality INT" asks λ ws n s. only s (floatLine (qualityShown (INT ws 2))))
     ∷ []
 
+-- the rows on more than the watch and the sweep
+abbrev pub otherRows : Rows
+otherRows = choiceRows ++ (powerRows ++ readingRows)
+
 -- the rows in the order in which they are tried
 unfoldable pub table : Rows
-table = map (turned (λ call n. watching call)) watchRows ++ (sweepRows ++ (powerRows ++ readingRows))
+table = map (turned (λ call n. watching call)) watchRows ++ (map (turned (λ call n. sweeping call)) sweepRows ++ otherRows)
 
 -- what the n-th line of a file does and writes, in the state before it
 unfoldable pub lineAsked : ℕ → State → List ℕ → Written

@@ -2,11 +2,8 @@
 ghost use mathlib.Core.Path.{_≡_};
 ghost use mathlib.Core.Bool.{cond};
 ghost use Rattle.readings_rules.specs.Channels.{channelInRange};
-ghost use Rattle.sweep_rules.specs.Record.{firstSwept, sweptChannels};
-ghost use Rattle.session_rows.specs.Calls.{toldAnswered, accepts, withSweep, missedFrom, sweepFiled, outcomeSet, chosen};
-ghost use Rattle.session_rows.specs.Calls.{powerStarted, powerStepped, malformed};
+ghost use Rattle.session_rows.specs.Calls.{toldAnswered, outcomeSet, chosen, powerStarted, powerStepped, malformed};
 use power::Decoded;
-use readings::Burst;
 use readings_rules::CHANNEL_HIGHEST;
 use refusal::Outcome;
 use session_answers::of_choice;
@@ -15,45 +12,11 @@ use session_answers::of_outcome;
 use session_answers::of_power;
 use session_state::State;
 use session_texts::Text;
-use sweep::Sweep;
-
-// The channels that the sweep visits.
-const FIRST_SWEPT: u16 = sweep::FIRST_SWEPT as u16;
-
-const LAST_SWEPT: u16 = sweep::LAST_SWEPT as u16;
 
 // A state after a line, with the text that the line writes.
 pub struct Answered {
     pub state: State,
     pub text: Text,
-}
-
-// "Missed" filed for every channel that the sweep visits: it is refused where the channel was visited, and the record stays.
-pub fn rest_missed(sweep: Sweep) -> Sweep
-    ensures { λ r. ⌜ r ≡ missedFrom sweptChannels firstSwept sweep ⌝ }
-{
-    let mut s = sweep;
-    let mut c = FIRST_SWEPT;
-    while c <= LAST_SWEPT {
-        let filed = sweep::file(s, c, Burst::Missed);
-        s = filed.sweep;
-        c += 1;
-    }
-    s
-}
-
-pub fn file_in_sweep(state: State, channel: u16, burst: Burst) -> Answered
-    ensures { λ r. ⌜ toldAnswered r ≡ sweepFiled channel burst state ⌝ }
-{
-    let filed = sweep::file(state.sweep, channel, burst);
-    let after = filed.sweep;
-    let answer = filed.answer;
-    let mut next = state;
-    next.sweep = after;
-    Answered {
-        state: next,
-        text: of_outcome(answer),
-    }
 }
 
 // The outcome byte of a channel; a channel above the last is an error.
@@ -85,17 +48,6 @@ pub fn choose(state: State, margin: i32) -> Answered
     Answered {
         state,
         text: of_choice(answer),
-    }
-}
-
-pub fn with_sweep(state: State, sweep: Sweep) -> Answered
-    ensures { λ r. ⌜ toldAnswered r ≡ accepts (withSweep state sweep) ⌝ }
-{
-    let mut next = state;
-    next.sweep = sweep;
-    Answered {
-        state: next,
-        text: of_outcome(Outcome::Accepted),
     }
 }
 

@@ -6,38 +6,33 @@ ghost use Rattle.session_calls.specs.Table.{rowAt};
 ghost use Rattle.session_texts.specs.Text.{said};
 ghost use Rattle.session_state.specs.declared.State.{State};
 ghost use Rattle.session_rows.specs.Calls.{toldAnswered, only, malformed};
-ghost use Rattle.session_rows.specs.Table.{sweepRows, powerRows, readingRows, parametersSet, rowOf, rowWritten};
+ghost use Rattle.session_rows.specs.Table.{choiceRows, powerRows, readingRows, parametersSet, rowOf, rowWritten};
 use crate::calls::Answered;
 use crate::calls::choose;
-use crate::calls::file_in_sweep;
-use crate::calls::rest_missed;
 use crate::calls::set_outcome;
 use crate::calls::start_power;
 use crate::calls::step_power;
-use crate::calls::with_sweep;
 use power::Decoded;
 use power::PowerParameters;
-use readings::Burst;
 use refusal::Outcome;
-use session_answers::of_counts;
 use session_answers::of_error;
 use session_answers::of_float;
 use session_answers::of_hundredths;
-use session_answers::of_next;
 use session_answers::of_outcome;
 use session_answers::of_watch;
 use session_state::State;
+use session_sweep::SWEEP_ROWS;
+use session_sweep::sweep_row;
 use session_texts::Text;
 use session_values::byte_at;
 use session_values::channel_at;
 use session_values::int_at;
 use session_values::num_at;
 use session_watch::WATCH_ROWS;
-use session_watch::heard_at;
 use session_watch::watch_row;
 
-// The rows in the order in which they are tried: those on the watch, of which a session has most, then those on the sweep, on the power record,
-// and of single readings.
+// The rows in the order in which they are tried: those on the watch, of which a session has most, then those on the sweep, of the choice, on the
+// power record, and of single readings.
 const TABLE: [u8; 355] = *b"\
 file CH heard NUM NUM\n\
 file CH missed\n\
@@ -63,14 +58,14 @@ quality NUM\n\
 show level INT\n\
 show quality INT";
 
-// The number of rows of each part after those on the watch, and of all.
-const SWEEP_ROWS: usize = 8;
+// The number of rows of each part after those on the watch and on the sweep, and of all.
+const CHOICE_ROWS: usize = 2;
 
 const POWER_ROWS: usize = 4;
 
 const READING_ROWS: usize = 4;
 
-pub const ROWS: usize = WATCH_ROWS + SWEEP_ROWS + POWER_ROWS + READING_ROWS;
+pub const ROWS: usize = WATCH_ROWS + SWEEP_ROWS + CHOICE_ROWS + POWER_ROWS + READING_ROWS;
 
 // The number of the row that a line has; where it has none, the number of rows.
 pub fn row_of(line: &[u8]) -> usize
@@ -79,32 +74,12 @@ pub fn row_of(line: &[u8]) -> usize
     session_calls::row_of(&TABLE, line)
 }
 
-fn sweep_row(state: State, number: u64, row: usize, line: &[u8]) -> Answered
-    ensures { λ r. ⌜ toldAnswered r ≡ rowAt sweepRows malformed row (wordsOf (now (line .entry))) number state ⌝ }
+fn choice_row(state: State, number: u64, row: usize, line: &[u8]) -> Answered
+    ensures { λ r. ⌜ toldAnswered r ≡ rowAt choiceRows malformed row (wordsOf (now (line .entry))) number state ⌝ }
 {
     match row {
-        0 => file_in_sweep(state, channel_at(line, 2), heard_at(line, 4)),
-        1 => file_in_sweep(state, channel_at(line, 2), Burst::Missed),
-        2 => {
-            let next = sweep::next(state.sweep);
-            let answer = next.answer;
-            Answered {
-                state,
-                text: of_next(answer),
-            }
-        }
-        3 => {
-            let counts = sweep::counts(state.sweep);
-            let answer = counts.answer;
-            Answered {
-                state,
-                text: of_counts(answer),
-            }
-        }
-        4 => with_sweep(state, sweep::fresh()),
-        5 => with_sweep(state, rest_missed(state.sweep)),
-        6 => set_outcome(state, number, channel_at(line, 1), byte_at(line, 2)),
-        7 => choose(state, int_at(line, 1)),
+        0 => set_outcome(state, number, channel_at(line, 1), byte_at(line, 2)),
+        1 => choose(state, int_at(line, 1)),
         _ => Answered {
             state,
             text: of_error(number),
@@ -192,9 +167,18 @@ pub fn make(state: State, number: u64, row: usize, line: &[u8]) -> Answered
     }
     let row = row - WATCH_ROWS;
     if row < SWEEP_ROWS {
-        return sweep_row(state, number, row, line);
+        let swept = sweep_row(state.sweep, row, line);
+        let after = swept.sweep;
+        let text = swept.text;
+        let mut next = state;
+        next.sweep = after;
+        return Answered { state: next, text };
     }
     let row = row - SWEEP_ROWS;
+    if row < CHOICE_ROWS {
+        return choice_row(state, number, row, line);
+    }
+    let row = row - CHOICE_ROWS;
     if row < POWER_ROWS {
         return power_row(state, number, row, line);
     }

@@ -1,11 +1,13 @@
 -- The numbers of a line: its words read as numbers, by their places from 0 on. A word that is none of the kind counts as 0; a row asks for the
 -- kinds that it names alone, and a line that has the row has them.
-use Prim.Native.Nat.{ℕ, _-_}
+use Prim.Native.Nat.{ℕ, suc, _-_}
 use mathlib.Core.List.{List, [], _∷_}
 use mathlib.Core.Option.{Option·getD}
 use lib.ListN.{length, take}
 use lib.IntN.{ℤ, pos}
 use lib.Ieee.{Float, binary32, ofBits}
+use Rattle.readings_rules.specs.declared.Burst.{Burst}
+use Rattle.readings_rules.specs.declared.Burst.the-variants.{Heard}
 use Rattle.session_words.specs.Words.{wordAt}
 use Rattle.session_numbers.specs.Numbers.{channelOf, byteOf, intOf, numOf}
 
@@ -25,6 +27,10 @@ INT ws k = Option·getD (intOf (wordAt ws k)) (pos 0)
 
 unfoldable pub NUM : List (List ℕ) → ℕ → Float
 NUM ws k = Option·getD (numOf (wordAt ws k)) zeroNum
+
+-- a burst that was heard: the level at a place, and the quality after it
+abbrev pub heard : List (List ℕ) → ℕ → Burst
+heard ws k = Heard (record { level = NUM ws k; quality = NUM ws (suc k) })
 
 -- the 8 words after the first, as channels
 abbrev pub listed : List (List ℕ) → List ℕ

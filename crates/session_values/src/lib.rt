@@ -1,10 +1,12 @@
-// The numbers of a line of a session file: its words read as numbers, by their places from 0 on.
+// The numbers of a line of a session file, and the burst of two of them: its words read as numbers, by their places from 0 on.
 ghost use mathlib.Core.Path.{_≡_};
 ghost use mathlib.Core.Option.{Option·getD};
 ghost use Prim.Native.Nat.{_≤_};
 ghost use Rattle.session_words.specs.Words.{wordsOf, wordAt};
 ghost use Rattle.session_numbers.specs.Numbers.{naturalOf};
-ghost use Rattle.session_values.specs.Values.{CH, BYTE, INT, NUM, listed};
+ghost use Rattle.session_values.specs.Values.{CH, BYTE, INT, NUM, heard, listed};
+use readings_rules::Burst;
+use readings_rules::Reading;
 use session_numbers::BYTE_HIGHEST;
 use session_numbers::CH_HIGHEST;
 use session_numbers::IntWord;
@@ -58,6 +60,17 @@ pub fn num_at(line: &[u8], k: usize) -> f32
         NumWord::Value(x) => x,
         NumWord::Malformed => 0.0,
     }
+}
+
+// A burst that was heard: the level at a place of the line, and the quality after it. A place of 32 bits always has one after it.
+pub fn heard_at(line: &[u8], place: u32) -> Burst
+    ensures { λ r. ⌜ r ≡ heard (wordsOf (now (line .entry))) place ⌝ }
+{
+    let k = place as usize;
+    Burst::Heard(Reading {
+        level: num_at(line, k),
+        quality: num_at(line, k + 1),
+    })
 }
 
 // The words after the first, as the channels of a list.

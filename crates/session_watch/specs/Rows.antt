@@ -1,16 +1,10 @@
 -- Session files, section Calls and what they write: the rows on the watch, each with its text and the call that it asks for with the words of a
 -- line, by their places from 0 on.
-use Prim.Native.Nat.{ℕ, suc}
 use mathlib.Core.List.{List, [], _∷_}
-use Rattle.readings_rules.specs.declared.Burst.{Burst}
-use Rattle.readings_rules.specs.declared.Burst.the-variants.{Heard, Missed}
+use Rattle.readings_rules.specs.declared.Burst.the-variants.{Missed}
 use Rattle.watch_rules.specs.Told.{Call, start, newList, move, file, ask, verdict}
-use Rattle.session_values.specs.Values.{CH, INT, NUM, channelsOf}
+use Rattle.session_values.specs.Values.{CH, INT, heard, channelsOf}
 use Rattle.session_calls.specs.Table.{Row, _asks_}
-
--- a burst that was heard: the level at a place, and the quality after it
-abbrev pub heard : List (List ℕ) → ℕ → Burst
-heard ws k = Heard (record { level = NUM ws k; quality = NUM ws (suc k) })
 
 unfoldable pub watchRows : List (Row Call)
 watchRows =

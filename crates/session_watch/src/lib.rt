@@ -6,14 +6,13 @@ ghost use Rattle.watch_rules.specs.Record.{called};
 ghost use Rattle.session_words.specs.Words.{wordsOf};
 ghost use Rattle.session_values.specs.Values.{channelsOf};
 ghost use Rattle.session_calls.specs.Table.{rowAt};
-ghost use Rattle.session_watch.specs.Rows.{heard, watchRows};
+ghost use Rattle.session_watch.specs.Rows.{watchRows};
 use readings::Burst;
-use readings::Reading;
 use session_values::LISTED;
 use session_values::channel_at;
 use session_values::channels_at;
+use session_values::heard_at;
 use session_values::int_at;
-use session_values::num_at;
 use session_words::count;
 use session_words::least;
 use watch_rules::Handed;
@@ -21,17 +20,6 @@ use watch_rules::Watch;
 
 // The number of rows on the watch.
 pub const WATCH_ROWS: usize = 7;
-
-// A burst that was heard: the level at a place of the line, and the quality after it. A place of 32 bits always has one after it.
-pub fn heard_at(line: &[u8], place: u32) -> Burst
-    ensures { λ r. ⌜ r ≡ heard (wordsOf (now (line .entry))) place ⌝ }
-{
-    let k = place as usize;
-    Burst::Heard(Reading {
-        level: num_at(line, k),
-        quality: num_at(line, k + 1),
-    })
-}
 
 // `list CH..`: the words after the first.
 fn new_list(watch: Watch, line: &[u8]) -> Handed

@@ -1,12 +1,12 @@
--- `session_watch::heard_at` meets its contract: the floats at the place and after it.
+-- `session_values::heard_at` meets its contract: the floats at the place and after it.
 use mathlib.Core.Path.{ap, ap₂, _∙_}
 use native.Mathlib.Numerals.{add-one}
 use Rattle.readings_rules.specs.declared.Burst.the-variants.{Heard}
 use Rattle.session_words.specs.Words.{wordsOf}
 use Rattle.session_values.specs.Values.{NUM}
 use borrow.Author.Needs.{needs}
-use Rattle.session_watch.proofs.heard_at.Statement.{statement}
-use Rattle.session_watch.proofs.heard_at.Tie as tie
+use Rattle.session_values.proofs.heard_at.Statement.{statement}
+use Rattle.session_values.proofs.heard_at.Tie as tie
 
 returns : tie.Need-returns
 returns c =

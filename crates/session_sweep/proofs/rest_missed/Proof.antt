@@ -1,4 +1,4 @@
--- `session_rows::calls::rest_missed` meets its contract. Before channel c the record is that of the channels below c, and the rest is still to come.
+-- `session_sweep::rest_missed` meets its contract. Before channel c the record is that of the channels below c, and the rest is still to come.
 use mathlib.Core.Path.{_≡_, refl, sym, ap, _∙_}
 use borrow.Author.Needs.{needs}
 use native.Mathlib.Numerals.{add-one}
@@ -8,9 +8,9 @@ use Rattle.sweep_rules.specs.Filing.{filing, leaves}
 use Prim.Native.Nat.{ℕ, suc, _+_, _-_, _≤_}
 use native.Mathlib.Omega.{arith}
 use Rattle.sweep_rules.specs.Record.{firstSwept, lastSwept, sweptChannels}
-use Rattle.session_rows.specs.Calls.{missedFrom}
-use Rattle.session_rows.proofs.calls.rest_missed.Statement.{statement}
-use Rattle.session_rows.proofs.calls.rest_missed.Tie as tie
+use Rattle.session_sweep.specs.Rows.{missedFrom}
+use Rattle.session_sweep.proofs.rest_missed.Statement.{statement}
+use Rattle.session_sweep.proofs.rest_missed.Tie as tie
 
 missed-none : (c : ℕ) (s : Sweep) → missedFrom 0 c s ≡ s
 unfolding missedFrom
