@@ -1,24 +1,30 @@
-// The calls of the power steps: start, test and step, by value, and the step on a record that is lent. Document 01, section Power steps;
-// source document 000, clause 5.4, items 1 to 5.2, and clause 11.1.
+// The calls of the power steps: the step here, by value and on a record that is lent; start and test passed on. Document 01, section Power
+// steps; source document 000, clause 5.4, items 1 to 5.2.
 ghost use mathlib.Core.Path.{_≡_};
 ghost use mathlib.Core.Bool.{cond};
 ghost use Prim.Native.Nat.{_≤_, min};
-ghost use Rattle.refusal.specs.Told.{toldOutcome};
 ghost use Rattle.power_rules.specs.declared.Answer.the-variants.{Send, Refused};
 ghost use Rattle.power_rules.specs.Constants.{numericHighest, thousandthsHighest};
-ghost use Rattle.power_rules.specs.PowerSteps.{parametersInRange, codesInRange, numeric, wellFormed, freshWith, panUse, recordAfter};
-ghost use Rattle.power_rules.specs.Calls.{started, tested, stepped};
+ghost use Rattle.power_rules.specs.PowerSteps.{numeric, panUse, recordAfter};
+ghost use Rattle.power_rules.specs.Calls.{stepped};
 ghost use Rattle.power_rules.specs.Told.{toldAnswer};
 ghost use Rattle.power_rules.specs.Refusals.{InRange, WellFormed};
 ghost use Rattle.power_rules.specs.Code.{qualitySpan, gainAt, heldAt, nearestCode, wholeCodes, parAt, panAt};
 ghost use Rattle.power.specs.Code.{qualityOf};
+use power_record::MESTEP_STEP;
+use power_record::NUMERIC_HIGHEST;
+use power_record::THOUSANDTHS_HIGHEST;
+pub use power_record::check;
+use power_record::codes_in_range;
+use power_record::parameters_in_range;
+pub use power_record::start;
+use power_record::well_formed;
 pub use power_rules::Answer;
 pub use power_rules::Decoded;
 pub use power_rules::Handed;
 pub use power_rules::PowerParameters;
 pub use power_rules::PowerRecord;
 pub use power_rules::Stepped;
-use refusal::Outcome;
 use refusal::Refusal;
 
 // A quality that is in its range, counted from the lowest.
@@ -27,66 +33,14 @@ enum Quality {
     OutOfRange,
 }
 
-// The ranges of the parameters begin at 0 and end here.
-const SQT_HIGHEST: u32 = 126;
-
-const GAINUP_HIGHEST: u32 = 31;
-
-const GAINDN_HIGHEST: u32 = 10;
-
-const MESTEP_HIGHEST: u32 = 15;
-
-// The last numeric code of a PAN or PAR, and the last code of all.
-const NUMERIC_HIGHEST: u32 = 60;
-
-const CODE_HIGHEST: u32 = 63;
-
 // One step of SQT is 0.1 dB, in hundredths.
 const SQT_STEP: u32 = 10;
 
-// One code is 0.4 dB, one step of Mestep 0.2 dB, in thousandths.
+// One code is 0.4 dB, in thousandths.
 const CODE_STEP: u32 = 400;
-
-const MESTEP_STEP: u32 = 200;
-
-// The greatest attenuation and the greatest increase, 24 dB in thousandths.
-const THOUSANDTHS_HIGHEST: u32 = 24_000;
 
 // 0 dB, counted from the lowest quality in hundredths.
 const ZERO_QUALITY: u32 = (0 - readings_rules::QUALITY_LOWEST) as u32;
-
-// Codes 0 to 60, increase a multiple of 200 in 0 to 24,000.
-fn well_formed(r: PowerRecord) -> bool
-    ensures { λ b. ⌜ b ≡ wellFormed r ⌝ }
-{
-    (r.panlast <= NUMERIC_HIGHEST)
-        & (r.parsave <= NUMERIC_HIGHEST)
-        & (r.panbasic <= NUMERIC_HIGHEST)
-        & (r.increase <= THOUSANDTHS_HIGHEST)
-        & (r.increase % MESTEP_STEP == 0)
-}
-
-fn parameters_in_range(p: PowerParameters) -> bool
-    ensures { λ b. ⌜ b ≡ parametersInRange p ⌝ }
-{
-    (p.sqt <= SQT_HIGHEST)
-        & (p.paninit <= NUMERIC_HIGHEST)
-        & (p.panmin <= NUMERIC_HIGHEST)
-        & (p.panmax <= NUMERIC_HIGHEST)
-        & (p.panmin <= p.panmax)
-        & (p.gainup <= GAINUP_HIGHEST)
-        & (p.gaindn <= GAINDN_HIGHEST)
-        & (p.mestep <= MESTEP_HIGHEST)
-}
-
-fn codes_in_range(d: Decoded) -> bool
-    ensures { λ b. ⌜ b ≡ codesInRange d ⌝ }
-{
-    match d {
-        Decoded::Failed => true,
-        Decoded::Codes { pan, par } => (pan <= CODE_HIGHEST) & (par <= CODE_HIGHEST),
-    }
-}
 
 fn quality_of(sqi: i32) -> Quality
     ensures { λ q. ⌜ q ≡ qualityOf sqi ⌝ }
@@ -182,17 +136,6 @@ fn pan_to_send(p: PowerParameters, r: PowerRecord) -> u32
     }
 }
 
-fn fresh_with(paninit: u32) -> PowerRecord
-    ensures { λ r. ⌜ r ≡ freshWith paninit ⌝ }
-{
-    PowerRecord {
-        panlast: paninit,
-        parsave: paninit,
-        panbasic: paninit,
-        increase: 0,
-    }
-}
-
 fn refused(why: Refusal, r: PowerRecord) -> Stepped
     ensures { λ s. ⌜ (s .power ≡ r) × (s .answer ≡ Refused why) ⌝ }
 {
@@ -234,40 +177,6 @@ fn send(p: PowerParameters, r: PowerRecord, d: Decoded, quality: u32) -> Stepped
     Stepped {
         power,
         answer: Answer::Send { par, pan },
-    }
-}
-
-// A fresh record; refused, one of all zeros.
-pub fn start(p: PowerParameters) -> Handed
-    ensures { λ h. ⌜ (h .power ≡ started p .power) × (toldOutcome (h .answer) ≡ started p .answer) ⌝ }
-{
-    if parameters_in_range(p) {
-        Handed {
-            power: fresh_with(p.paninit),
-            answer: Outcome::Accepted,
-        }
-    } else {
-        Handed {
-            power: fresh_with(0),
-            answer: Outcome::Refused(Refusal::ParameterOutOfRange),
-        }
-    }
-}
-
-// Whether a record is well formed; it comes back as it was given.
-pub fn check(r: PowerRecord) -> Handed
-    ensures { λ h. ⌜ (h .power ≡ tested r .power) × (toldOutcome (h .answer) ≡ tested r .answer) ⌝ }
-{
-    if well_formed(r) {
-        Handed {
-            power: r,
-            answer: Outcome::Accepted,
-        }
-    } else {
-        Handed {
-            power: r,
-            answer: Outcome::Refused(Refusal::RecordNotWellFormed),
-        }
     }
 }
 

@@ -2,8 +2,8 @@
 use mathlib.Core.Path.{refl, sym, _∙_}
 use Rattle.power_rules.specs.Calls.{started}
 use borrow.Author.Needs.{needs}
-use Rattle.power.proofs.start.Statement.{statement}
-use Rattle.power.proofs.start.Tie as tie
+use Rattle.power_record.proofs.start.Statement.{statement}
+use Rattle.power_record.proofs.start.Tie as tie
 
 parameters-in-range-requires : tie.Need-parameters-in-range-requires
 parameters-in-range-requires c κs = search needs

@@ -2,8 +2,8 @@
 use mathlib.Core.Path.{refl, sym, _∙_}
 use Rattle.power_rules.specs.Calls.{tested}
 use borrow.Author.Needs.{needs}
-use Rattle.power.proofs.check.Statement.{statement}
-use Rattle.power.proofs.check.Tie as tie
+use Rattle.power_record.proofs.check.Statement.{statement}
+use Rattle.power_record.proofs.check.Tie as tie
 
 well-formed-requires : tie.Need-well-formed-requires
 well-formed-requires c κs = search needs

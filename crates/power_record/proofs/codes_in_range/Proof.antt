@@ -2,8 +2,8 @@
 use mathlib.Core.Path.{sym, ap}
 use Rattle.power_rules.specs.PowerSteps.{codesInRange}
 use borrow.Author.Needs.{needs}
-use Rattle.power.proofs.codes_in_range.Statement.{statement}
-use Rattle.power.proofs.codes_in_range.Tie as tie
+use Rattle.power_record.proofs.codes_in_range.Statement.{statement}
+use Rattle.power_record.proofs.codes_in_range.Tie as tie
 
 enum-told : tie.Need-enum-told
 enum-told c = search needs
@@ -12,7 +12,7 @@ enum-known-d : tie.Need-enum-known-d
 enum-known-d c = search needs
 
 returns : tie.Need-returns
-returns c = search needs
+returns c = sym (ap codesInRange (c .enum-told .given .1))
 
 returns-2 : tie.Need-returns-2
 returns-2 c = sym (ap codesInRange (c .before .d .given .1))
