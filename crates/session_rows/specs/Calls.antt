@@ -67,12 +67,12 @@ handedOver s h = record { state = withWatch s (h .watch); text = watchLine (h .a
 abbrev pub watching : Call → State → Written
 watching k s = handedOver s (called (s .watch) k)
 
--- what a call on the sweep does and writes
-unfoldable pub sweptOver : State → SweepWritten → Written
-sweptOver s w = record { state = withSweep s (w .sweep); text = w .text }
+-- what a call on the sweep leaves and writes
+unfoldable pub sweepHandedOver : State → SweepWritten → Written
+sweepHandedOver s w = record { state = withSweep s (w .sweep); text = w .text }
 
 abbrev pub sweeping : (Sweep → SweepWritten) → State → Written
-sweeping k s = sweptOver s (k (s .sweep))
+sweeping k s = sweepHandedOver s (k (s .sweep))
 
 -- a start and a step of the power record use the parameters that are set
 unfoldable pub powerStarted : State → Written

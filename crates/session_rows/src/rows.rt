@@ -167,9 +167,9 @@ pub fn make(state: State, number: u64, row: usize, line: &[u8]) -> Answered
     }
     let row = row - WATCH_ROWS;
     if row < SWEEP_ROWS {
-        let swept = sweep_row(state.sweep, row, line);
-        let after = swept.sweep;
-        let text = swept.text;
+        let handed = sweep_row(state.sweep, row, line);
+        let after = handed.sweep;
+        let text = handed.text;
         let mut next = state;
         next.sweep = after;
         return Answered { state: next, text };

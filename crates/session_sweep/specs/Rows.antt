@@ -14,7 +14,7 @@ use Rattle.session_texts.specs.Text.{said}
 use Rattle.session_answers.specs.Lines.{outcomeLine, nextLine, countsLine}
 use Rattle.session_values.specs.Values.{CH, heard}
 use Rattle.session_calls.specs.Table.{Row, _asks_}
-use Rattle.session_sweep.specs.declared.Swept.{Swept}
+use Rattle.session_sweep.specs.declared.SweepAnswered.{SweepAnswered}
 
 -- the sweep after a line, and the text that the line writes
 pub record SweepWritten : Type 0 where
@@ -22,8 +22,8 @@ pub record SweepWritten : Type 0 where
   pub text : List ℕ
 
 -- what the code answers for a line
-abbrev pub toldSwept : Swept → SweepWritten
-toldSwept r = record { sweep = r .sweep; text = said (r .text) }
+abbrev pub toldSweepAnswered : SweepAnswered → SweepWritten
+toldSweepAnswered r = record { sweep = r .sweep; text = said (r .text) }
 
 -- "missed" filed for each of n channels from c on: one that was visited is refused, and the record stays as it was
 unfoldable pub missedFrom : ℕ → ℕ → Sweep → Sweep

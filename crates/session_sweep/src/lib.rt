@@ -4,7 +4,7 @@ ghost use mathlib.Core.Path.{_≡_};
 ghost use Rattle.sweep_rules.specs.Record.{firstSwept, sweptChannels};
 ghost use Rattle.session_words.specs.Words.{wordsOf};
 ghost use Rattle.session_calls.specs.Table.{rowAt};
-ghost use Rattle.session_sweep.specs.Rows.{toldSwept, missedFrom, filed, nextAsked, countsAsked, accepts, sweepRows};
+ghost use Rattle.session_sweep.specs.Rows.{toldSweepAnswered, missedFrom, filed, nextAsked, countsAsked, accepts, sweepRows};
 use readings_rules::Burst;
 use refusal::Outcome;
 use session_answers::of_counts;
@@ -24,50 +24,50 @@ const FIRST_SWEPT: u16 = sweep::FIRST_SWEPT as u16;
 const LAST_SWEPT: u16 = sweep::LAST_SWEPT as u16;
 
 // A sweep after a line, with the text that the line writes.
-pub struct Swept {
+pub struct SweepAnswered {
     pub sweep: Sweep,
     pub text: Text,
 }
 
-fn file(sweep: Sweep, channel: u16, burst: Burst) -> Swept
-    ensures { λ r. ⌜ toldSwept r ≡ filed channel burst sweep ⌝ }
+fn file(sweep: Sweep, channel: u16, burst: Burst) -> SweepAnswered
+    ensures { λ r. ⌜ toldSweepAnswered r ≡ filed channel burst sweep ⌝ }
 {
     let filed = sweep::file(sweep, channel, burst);
     let after = filed.sweep;
     let answer = filed.answer;
-    Swept {
+    SweepAnswered {
         sweep: after,
         text: of_outcome(answer),
     }
 }
 
-fn next(sweep: Sweep) -> Swept
-    ensures { λ r. ⌜ toldSwept r ≡ nextAsked sweep ⌝ }
+fn next(sweep: Sweep) -> SweepAnswered
+    ensures { λ r. ⌜ toldSweepAnswered r ≡ nextAsked sweep ⌝ }
 {
     let next = sweep::next(sweep);
     let answer = next.answer;
-    Swept {
+    SweepAnswered {
         sweep,
         text: of_next(answer),
     }
 }
 
-fn counts(sweep: Sweep) -> Swept
-    ensures { λ r. ⌜ toldSwept r ≡ countsAsked sweep ⌝ }
+fn counts(sweep: Sweep) -> SweepAnswered
+    ensures { λ r. ⌜ toldSweepAnswered r ≡ countsAsked sweep ⌝ }
 {
     let counts = sweep::counts(sweep);
     let answer = counts.answer;
-    Swept {
+    SweepAnswered {
         sweep,
         text: of_counts(answer),
     }
 }
 
 // Accepted, with the sweep that follows.
-fn accepted(sweep: Sweep) -> Swept
-    ensures { λ r. ⌜ toldSwept r ≡ accepts sweep ⌝ }
+fn accepted(sweep: Sweep) -> SweepAnswered
+    ensures { λ r. ⌜ toldSweepAnswered r ≡ accepts sweep ⌝ }
 {
-    Swept {
+    SweepAnswered {
         sweep,
         text: of_outcome(Outcome::Accepted),
     }
@@ -88,8 +88,8 @@ fn rest_missed(sweep: Sweep) -> Sweep
 }
 
 // A call on the sweep, by its row. No row is beyond the last: there the next channel is asked for, which leaves the sweep as it is.
-pub fn sweep_row(sweep: Sweep, row: usize, line: &[u8]) -> Swept
-    ensures { λ r. ⌜ toldSwept r ≡ rowAt sweepRows nextAsked row (wordsOf (now (line .entry))) sweep ⌝ }
+pub fn sweep_row(sweep: Sweep, row: usize, line: &[u8]) -> SweepAnswered
+    ensures { λ r. ⌜ toldSweepAnswered r ≡ rowAt sweepRows nextAsked row (wordsOf (now (line .entry))) sweep ⌝ }
 {
     match row {
         0 => file(sweep, channel_at(line, 2), heard_at(line, 4)),

@@ -1,6 +1,4 @@
 -- `session_sweep::accepted` meets its contract: the sweep is handed on, and `accepted` is written.
-use mathlib.Core.Path.{ap}
-use Rattle.session_sweep.specs.Rows.{SweepWritten}
 use borrow.Author.Needs.{needs}
 use Rattle.session_sweep.proofs.accepted.Statement.{statement}
 use Rattle.session_sweep.proofs.accepted.Tie as tie

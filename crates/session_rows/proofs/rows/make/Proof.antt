@@ -6,7 +6,7 @@ use mathlib.Core.List.{_++_}
 use Rattle.session_words.specs.Words.{wordsOf}
 use Rattle.session_watch.specs.Rows.{watchRows}
 use Rattle.session_sweep.specs.Rows.{sweepRows}
-use Rattle.session_rows.specs.Calls.{withWatch, handedOver, sweptOver}
+use Rattle.session_rows.specs.Calls.{withWatch, handedOver, sweepHandedOver}
 use Rattle.session_rows.specs.Table.{choiceRows, powerRows, readingRows, otherRows, rowWritten}
 use Rattle.session_rows.proofs.Parts.{at, within, after, on-watch, on-sweep, past-sweep}
 use borrow.Author.Needs.{needs}
@@ -23,12 +23,12 @@ returns c =
     ∙ on-watch (a .number) (a .state) (wordsOf (a .line .now)) (w .before .if1 .taken)
 
 returns-2 : tie.Need-returns-2
-unfolding watchRows sweepRows sweptOver
+unfolding watchRows sweepRows sweepHandedOver
 returns-2 c =
     let w = c .before .before in
     let e = w .before .before in
     let a = e .before .before .args in
-    ap (sweptOver (a .state)) (w .sweep-row .ensures)
+    ap (sweepHandedOver (a .state)) (w .sweep-row .ensures)
     ∙ on-sweep (a .number) (a .state) (wordsOf (a .line .now)) (e .if1 .left) (w .before .if2 .taken)
 
 -- a row after those on the watch and on the sweep
