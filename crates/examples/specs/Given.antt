@@ -69,11 +69,16 @@ answerAfter ks k = called (afterFrom fresh ks) k .answer
 
 -- "Two levels -1 and -2": -0.01 and -0.02 dBm, for channel 100
 abbrev pub twoLevels : List Call
-twoLevels = start 100 ∷ file 100 (heardAt 0xbc23_d70a) ∷ file 100 (heardAt 0xbca3_d70a) ∷ []
+twoLevels = start 100 15 ∷ file 100 (heardAt 0xbc23_d70a) ∷ file 100 (heardAt 0xbca3_d70a) ∷ []
 
--- "Serving 15 times -10,000, a neighbour 15 times -9,700": channels 100 and 200, -100 and -97 dBm, the serving channel n times
-abbrev pub twoChannels : ℕ → List Call
-twoChannels n = start 100 ∷ newList (200 ∷ []) ∷ (replicate n (file 100 (heardAt 0xc2c8_0000)) ++ replicate 15 (file 200 (heardAt 0xc2c2_0000)))
+-- "Serving 15 times -10,000, a neighbour 15 times -9,700", the depth for 15: channels 100 and 200, -100 and -97 dBm, the serving channel n times
+abbrev pub twoChannels : ℕ → ℕ → List Call
+twoChannels depth n =
+    start 100 depth ∷ newList (200 ∷ []) ∷ (replicate n (file 100 (heardAt 0xc2c8_0000)) ++ replicate depth (file 200 (heardAt 0xc2c2_0000)))
+
+-- 0 dBm, then n times -1 dBm, for channel 100 at depth 31
+abbrev pub firstAndMore : ℕ → List Call
+firstAndMore n = start 100 31 ∷ file 100 (heardAt 0) ∷ replicate n (file 100 (heardAt 0xbf80_0000))
 
 -- ---- power steps
 

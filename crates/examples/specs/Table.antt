@@ -1,15 +1,16 @@
 -- Document 01, section Checked examples: one table, and the one statement that every row of it holds. All lines marked P are in it, each under the
--- paper's words; so are those that are not, which are run besides, and at the end three rows of our own.
+-- paper's words, those of the watch at depth 15; so are those that are not, which are run besides, and at the end rows of our own, by its rules and
+-- by document 02.
 use mathlib.Core.Path.{_≡_}
 use mathlib.Core.List.{List, [], _∷_}
 use lib.IntN.{pos}
 use Rattle.refusal.specs.Told.{refused, gives}
 use Rattle.readings_rules.specs.Hundredths.{levelOf, qualityOf}
 use Rattle.choice_rules.specs.Choose.{camp, read, noBeam, choosing}
-use Rattle.watch_rules.specs.Told.{ask, verdict, levels, wait, stay, moveTo}
+use Rattle.watch_rules.specs.Told.{start, ask, verdict, levels, wait, stay, moveTo}
 use Rattle.power_rules.specs.declared.Decoded.the-variants.{Failed, Codes}
 use Rattle.power_rules.specs.Calls.{stepped}
-use Rattle.examples.specs.Given.{minus, single, nothingHeard, threeHeard, nothingRead, threeRead, answerAfter, twoLevels, twoChannels, parameters, unequalGains, atStart, parOf, pansSent}
+use Rattle.examples.specs.Given.{minus, single, nothingHeard, threeHeard, nothingRead, threeRead, answerAfter, twoLevels, twoChannels, firstAndMore, parameters, unequalGains, atStart, parOf, pansSent}
 
 -- a row: what the definitions give, and what the paper says
 infixl 70 _comesTo_
@@ -40,10 +41,10 @@ table =
     -- "P Two levels -1 and -2: mean -2."
     ∷ answerAfter twoLevels (ask 100) comesTo gives (levels 2 (minus 2))
     -- "P Serving 15 times -10,000, a neighbour 15 times -9,700: hysteresis 300 stay, 299 move."
-    ∷ answerAfter (twoChannels 15) (verdict (pos 300)) comesTo gives stay
-    ∷ answerAfter (twoChannels 15) (verdict (pos 299)) comesTo gives (moveTo 200)
+    ∷ answerAfter (twoChannels 15 15) (verdict (pos 300)) comesTo gives stay
+    ∷ answerAfter (twoChannels 15 15) (verdict (pos 299)) comesTo gives (moveTo 200)
     -- "With 14 levels in the serving channel: wait."
-    ∷ answerAfter (twoChannels 14) (verdict (pos 299)) comesTo gives wait
+    ∷ answerAfter (twoChannels 15 14) (verdict (pos 299)) comesTo gives wait
     -- "P SQT 85, both gains 10, PANuse 20: SQI 750 gives PAR 17, P 950 gives 22."
     ∷ parOf (stepped parameters atStart (Codes 20 63) (pos 750) .answer) comesTo gives (pos 17)
     ∷ parOf (stepped parameters atStart (Codes 20 63) (pos 950) .answer) comesTo gives (pos 22)
@@ -56,6 +57,17 @@ table =
     ∷ parOf (stepped unequalGains atStart (Codes 20 63) (pos 950) .answer) comesTo gives (pos 22)
     -- a decoded PAR that is not numeric ends the increase: PANinit 30, failed, PAR 63: PAN sent 28, 30
     ∷ pansSent atStart (Failed ∷ Codes 63 63 ∷ []) comesTo (gives (pos 28) ∷ gives (pos 30) ∷ [])
+    -- document 02, E8. At depth 5 the verdict comes with the fifth level, and the margin is 5 times the hysteresis
+    ∷ answerAfter (twoChannels 5 4) (verdict (pos 299)) comesTo gives wait
+    ∷ answerAfter (twoChannels 5 5) (verdict (pos 299)) comesTo gives (moveTo 200)
+    ∷ answerAfter (twoChannels 5 5) (verdict (pos 300)) comesTo gives stay
+    -- at depth 31 a 32nd level pushes out the first
+    ∷ answerAfter (firstAndMore 30) (ask 100) comesTo gives (levels 31 (minus 97))
+    ∷ answerAfter (firstAndMore 31) (ask 100) comesTo gives (levels 31 (minus 100))
+    -- a depth outside 5 to 31 is refused with 7, before a channel above 1,087 with 2
+    ∷ answerAfter [] (start 1088 4) comesTo refused 7
+    ∷ answerAfter [] (start 1088 32) comesTo refused 7
+    ∷ answerAfter [] (start 1088 31) comesTo refused 2
     ∷ []
 
 -- both sides of a row are the same

@@ -41,8 +41,7 @@ use Rattle.choice_rules.proofs.Claims as choices
 use Rattle.watch_rules.specs.declared.Watch.{Watch}
 use Rattle.watch_rules.specs.Told.{Call, start, newList, move, file, ask, verdict, Given, accepted, levels, wait, stay, moveTo}
 use Rattle.watch_rules.specs.Rules.{View, refusal, granted, orRefused, answer, full, servingLevels, target, stayOrMove}
-use Rattle.watch_rules.specs.Rows.{shown as shownBy}
-use Rattle.watch_rules.specs.Record.{rows, wellFormed, handed, returned, called, tested}
+use Rattle.watch_rules.specs.Record.{rows, viewOf, wellFormed, handed, returned, called, tested}
 use Rattle.power_rules.specs.declared.Answer.{Answer}
 use Rattle.power_rules.specs.declared.Answer.the-variants as sent
 use Rattle.power_rules.specs.Told.{toldAnswer}
@@ -143,14 +142,14 @@ choice-kept (choice.NoBeam n) = given refl refl
 choice-kept (choice.Refused r) = numbered refl (not-accepted r)
 
 -- ---- watch: a call is refused, or it gives what it grants
-module _ (P : Told Given → Type 0) (w : Watch) (k : Call) (refuses : (r : Refusal) → P (refusedFor r)) (grants : P (gives (granted (shownBy (rows w)) k))) where
-  by-refusal : (o : Option Refusal) → P (orRefused o (granted (shownBy (rows w)) k))
+module _ (P : Told Given → Type 0) (w : Watch) (k : Call) (refuses : (r : Refusal) → P (refusedFor r)) (grants : P (gives (granted (viewOf w) k))) where
+  by-refusal : (o : Option Refusal) → P (orRefused o (granted (viewOf w) k))
   by-refusal none = grants
   by-refusal (some r) = refuses r
 
   by-form : (b : Bool) → P (cond b (handed w (rows w) k) (returned w) .answer)
   unfolding answer
-  by-form true = by-refusal (refusal (shownBy (rows w)) k)
+  by-form true = by-refusal (refusal (viewOf w) k)
   by-form false = refuses RecordNotWellFormed
 
   answer-is : P (called w k .answer)
@@ -161,7 +160,7 @@ abbrev Plain : Told Given → Type 0
 Plain = Kept refusalNumber (λ n. n) (λ n. accepted)
 
 plain-granted : (v : View) (k : Call) → Changes k → Plain (gives (granted v k))
-plain-granted v (start c) p = given refl refl
+plain-granted v (start c d) p = given refl refl
 plain-granted v (newList l) p = given refl refl
 plain-granted v (move c) p = given refl refl
 plain-granted v (file c b) p = given refl refl
@@ -170,7 +169,7 @@ plain-granted v (verdict h) p = absurd p
 
 plain-kept : (x : Changing) → Plain (called (x .watch) (x .call) .answer)
 plain-kept x =
-    answer-is Plain (x .watch) (x .call) (λ r. numbered refl (not-accepted r)) (plain-granted (shownBy (rows (x .watch))) (x .call) (x .changes))
+    answer-is Plain (x .watch) (x .call) (λ r. numbered refl (not-accepted r)) (plain-granted (viewOf (x .watch)) (x .call) (x .changes))
 
 by-test : (b : Bool) (w : Watch) → Plain (cond b (record { watch = w; answer = gives accepted }) (returned w) .answer)
 by-test true w = given refl refl
@@ -199,8 +198,8 @@ judged false o = given refl refl
 
 verdict-kept : (x : Watch × ℤ) → Judged (called (x .0) (verdict (x .1)) .answer)
 verdict-kept x =
-    let v : View = shownBy (rows (x .0)) in
-    answer-is Judged (x .0) (verdict (x .1)) (λ r. numbered refl (not-accepted r)) (judged (full (servingLevels v)) (target v (x .1)))
+    let v : View = viewOf (x .0) in
+    answer-is Judged (x .0) (verdict (x .1)) (λ r. numbered refl (not-accepted r)) (judged (full (v .depth) (servingLevels v)) (target v (x .1)))
 
 -- ---- power
 sent-kept : (a : Answer) → Kept sentAnswer (λ x. x .refusal) (λ x. record { par = pos (x .par); pan = pos (x .pan) }) (toldAnswer a)

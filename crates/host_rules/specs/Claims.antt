@@ -32,7 +32,7 @@ OneToOneOver {A} g f = (a b : A) → f (g a) ≡ f (g b) → g a ≡ g b
 
 -- a call on a watch whose answer is its acceptance alone
 abbrev pub Changes : Call → Type 0
-Changes (start c) = Unit {0}
+Changes (start c d) = Unit {0}
 Changes (newList l) = Unit {0}
 Changes (move c) = Unit {0}
 Changes (file c b) = Unit {0}

@@ -16,7 +16,7 @@ pub enum Refusal {
     ListFaulty,
     // 6: a filed or asked channel not watched; a move to a channel not in the list; new list or verdict on an idle watch
     NotWatched,
-    // 7: a margin, hysteresis or power parameter out of range; PANmin above PANmax; a code above 63
+    // 7: a margin, hysteresis, depth or power parameter out of range; PANmin above PANmax; a code above 63
     ParameterOutOfRange,
     // 8: outcome string not 1,088 long, or a byte above 5
     OutcomesFaulty,

@@ -22,12 +22,16 @@ pub extern "C" fn royukezan_watch_fresh() -> Watch
     watch::fresh()
 }
 
-// Starts a watch on its serving channel. Refusals 9, 2.
+// Starts a watch on its serving channel, at a depth. Refusals 9, 7, 2.
 #[no_mangle]
-pub extern "C" fn royukezan_watch_start_by_value(w: Watch, serving: u16) -> WatchOutcome
-    ensures { λ r. ⌜ r ≡ watchOutcome (called w (Call.start serving)) ⌝ }
+pub extern "C" fn royukezan_watch_start_by_value(
+    w: Watch,
+    serving: u16,
+    depth: usize,
+) -> WatchOutcome
+    ensures { λ r. ⌜ r ≡ watchOutcome (called w (Call.start serving depth)) ⌝ }
 {
-    watch_outcome(watch::start(w, serving))
+    watch_outcome(watch::start(w, serving, depth))
 }
 
 // A new list of neighbours. Refusals 9, 5, 6.

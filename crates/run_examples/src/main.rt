@@ -174,7 +174,7 @@ fn say_outcomes_case(n: [u16; LISTED]) {
     }
 }
 
-// Each level of each track, and the track's channel and count.
+// Each level of each track, and the track's channel and count; the number of tracks in use, and the depth.
 fn same_watch(a: Watch, b: Watch) -> bool {
     let mut i = 0;
     while i < ROOM * CAPACITY {
@@ -186,7 +186,7 @@ fn same_watch(a: Watch, b: Watch) -> bool {
         }
         i += 1;
     }
-    a.watched == b.watched
+    (a.watched == b.watched) & (a.depth == b.depth)
 }
 
 fn say_watch(given: Watch, h: Handed) {
@@ -194,10 +194,11 @@ fn say_watch(given: Watch, h: Handed) {
     say_beside(of_watch(a), same_watch(given, h.watch));
 }
 
-// Every call on a watch.
+// Every call on a watch, and a start whose channel and depth are both out of range.
 fn say_watch_calls(w: Watch) {
     say_watch(w, watch::check(w));
-    say_watch(w, watch::start(w, 500));
+    say_watch(w, watch::start(w, 500, DEPTH));
+    say_watch(w, watch::start(w, 1088, 4));
     let list = [300u16, 200];
     say_watch(w, watch::new_list(w, &list));
     say_watch(w, watch::move_to(w, 200));
@@ -217,9 +218,12 @@ fn filed(w: Watch, channel: u16, level: f32, times: usize) -> Watch {
     v
 }
 
+// The depth of document 01's examples.
+const DEPTH: usize = 15;
+
 // Channel 100 serves, and so many levels of -10,000 are filed for it.
 fn watching(list: &[u16], times: usize) -> Watch {
-    let h = watch::start(watch::fresh(), 100);
+    let h = watch::start(watch::fresh(), 100, DEPTH);
     let h = watch::new_list(h.watch, list);
     filed(h.watch, 100, -100.0, times)
 }
@@ -237,18 +241,30 @@ fn watch_of(name: &[u8]) -> Watch {
     watch::fresh()
 }
 
-// The number of tracks in use, and a track's channel, its count and one of its levels.
+// A level as a track holds it; those of the cases fit.
+fn held(level: i32) -> i16 {
+    if level < -32768 {
+        return -32768;
+    }
+    if level > 32767 {
+        return 32767;
+    }
+    level as i16
+}
+
+// The depth, the number of tracks in use, and a track's channel, its count and one of its levels.
 fn watched(from: Watch, n: [u16; LISTED], level: i32) -> Watch {
     let mut w = from;
-    w.watched = n[1] as usize;
-    let place = n[2] as usize;
-    let at = n[5] as usize;
+    w.depth = n[1] as usize;
+    w.watched = n[2] as usize;
+    let place = n[3] as usize;
+    let at = n[6] as usize;
     if place < ROOM {
         if at < CAPACITY {
             let mut t = w.tracks[place];
-            t.channel = n[3];
-            t.count = n[4] as usize;
-            t.levels[at] = level;
+            t.channel = n[4];
+            t.count = n[5] as usize;
+            t.levels[at] = held(level);
             w.tracks[place] = t;
         }
     }
@@ -303,7 +319,7 @@ fn say_answers(case: &[u8]) {
         b'm' => say(of_burst(Burst::Missed)),
         b's' => say_sweep_calls(swept(n, int_at(case, 2))),
         b'o' => say_outcomes_case(n),
-        b'w' => say_watch_calls(watched(watch_of(word(case, 1)), n, int_at(case, 7))),
+        b'w' => say_watch_calls(watched(watch_of(word(case, 1)), n, int_at(case, 8))),
         b'p' => say_power_case(n),
         _ => {}
     }

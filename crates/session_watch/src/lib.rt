@@ -9,6 +9,7 @@ ghost use Rattle.session_calls.specs.Table.{rowAt};
 ghost use Rattle.session_watch.specs.Rows.{watchRows};
 use readings::Burst;
 use session_values::LISTED;
+use session_values::byte_at;
 use session_values::channel_at;
 use session_values::channels_at;
 use session_values::heard_at;
@@ -19,7 +20,10 @@ use watch_rules::Handed;
 use watch_rules::Watch;
 
 // The number of rows on the watch.
-pub const WATCH_ROWS: usize = 7;
+pub const WATCH_ROWS: usize = 8;
+
+// The depth of a start that names none: recorded sessions have such lines.
+const RECORDED_DEPTH: usize = 15;
 
 // `list CH..`: the words after the first.
 fn new_list(watch: Watch, line: &[u8]) -> Handed
@@ -39,9 +43,10 @@ pub fn watch_row(watch: Watch, row: usize, line: &[u8]) -> Handed
         1 => watch::file(watch, channel_at(line, 1), Burst::Missed),
         2 => watch::ask(watch, channel_at(line, 1)),
         3 => watch::verdict(watch, int_at(line, 1)),
-        4 => watch::start(watch, channel_at(line, 1)),
-        5 => new_list(watch, line),
-        6 => watch::move_to(watch, channel_at(line, 1)),
+        4 => watch::start(watch, channel_at(line, 1), RECORDED_DEPTH),
+        5 => watch::start(watch, channel_at(line, 1), byte_at(line, 2) as usize),
+        6 => new_list(watch, line),
+        7 => watch::move_to(watch, channel_at(line, 1)),
         _ => watch::verdict(watch, 0),
     }
 }

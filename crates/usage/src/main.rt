@@ -134,10 +134,10 @@ fn say_watch(answer: Answer) {
     }
 }
 
-// Each call hands its watch on to the next. The hysteresis is in hundredths. While the serving channel has fewer than 15 levels, the verdict is
-// to wait.
+// Each call hands its watch on to the next. The start gives its depth, 5 to 31: how many levels of a channel make a mean. The hysteresis is in
+// hundredths. While the serving channel has fewer levels than the depth, the verdict is to wait.
 fn say_watched() {
-    let h = watch::start(watch::fresh(), 310);
+    let h = watch::start(watch::fresh(), 310, 15);
     let list = [118u16, 42, 205];
     let h = watch::new_list(h.watch, &list);
     let h = watch::file(h.watch, 42, burst_on(42));

@@ -19,30 +19,32 @@ use Rattle.watch_list.proofs.Watched.{placeIn}
 use Rattle.watch_list.proofs.Stores.{member, as-many}
 use Rattle.watch.specs.Code.{withTrack}
 
-tracks-pushed : (n c : ℕ) (x : ℤ) (ts : List Track) → tracksFine n ts ≡ true → mem c (channelsOf (take n ts)) ≡ true
-    → padTo (length ts) unused (map trackOf (pushAt c x (map rowOf (take n ts))))
-    ≡ set ts (placeOf c (take n ts)) (trackOf (push x (rowOf (getD ts (placeOf c (take n ts)) nothing))))
-tracks-pushed zero c x [] e h = clash h refl
-tracks-pushed zero c x (t ∷ ts) e h = clash h refl
-tracks-pushed (suc n) c x [] e h = clash e refl
-tracks-pushed (suc n) c x (t ∷ ts) e h =
-    let f : tracksFine n ts ≡ true = and-right (trackFine t) (tracksFine n ts) e in
+tracks-pushed : (d n c : ℕ) (x : ℤ) (ts : List Track) → tracksFine d n ts ≡ true → mem c (channelsOf (take n ts)) ≡ true
+    → padTo (length ts) unused (map trackOf (pushAt d c x (map rowOf (take n ts))))
+    ≡ set ts (placeOf c (take n ts)) (trackOf (push d x (rowOf (getD ts (placeOf c (take n ts)) nothing))))
+tracks-pushed d zero c x [] e h = clash h refl
+tracks-pushed d zero c x (t ∷ ts) e h = clash h refl
+tracks-pushed d (suc n) c x [] e h = clash e refl
+tracks-pushed d (suc n) c x (t ∷ ts) e h =
+    let f : tracksFine d n ts ≡ true = and-right (trackFine d t) (tracksFine d n ts) e in
     byCase (eqb (t .channel) c)
-    (λ q. rw q (ap (_∷_ (trackOf (push x (rowOf t)))) (tracks-read n ts f .padded)))
+    (λ q. rw q (ap (_∷_ (trackOf (push d x (rowOf t)))) (tracks-read d n ts f .padded)))
     (λ q. rw q
-    (ap₂ _∷_ (track-read t (and-left (trackFine t) (tracksFine n ts) e) .back)
-    (tracks-pushed n c x ts f (or-true-right (eqb (t .channel) c) (mem c (channelsOf (take n ts))) h q))))
+    (ap₂ _∷_ (track-read d t (and-left (trackFine d t) (tracksFine d n ts) e) .back)
+    (tracks-pushed d n c x ts f (or-true-right (eqb (t .channel) c) (mem c (channelsOf (take n ts))) h q))))
 
-length-pushed : (c : ℕ) (x : ℤ) (rs : List Row) → length (pushAt c x rs) ≡ length rs
-length-pushed c x rs =
-    sym (length-map (pushAt c x rs) (λ (r : Row). r .channel)) ∙ ap length (channels-push c x rs) ∙ length-map rs (λ (r : Row). r .channel)
+length-pushed : (d c : ℕ) (x : ℤ) (rs : List Row) → length (pushAt d c x rs) ≡ length rs
+length-pushed d c x rs =
+    sym (length-map (pushAt d c x rs) (λ (r : Row). r .channel)) ∙ ap length (channels-push d c x rs) ∙ length-map rs (λ (r : Row). r .channel)
 
 -- of a well-formed watch
 module _ (w : Watch) (c : ℕ) (formed : wellFormed w ≡ true) (there : placeIn w c < w .watched) where
   pub watch-pushed : (x : ℤ)
-      → withTrack w (placeIn w c) (trackOf (push x (rowOf (getD (w .tracks) (placeIn w c) nothing)))) ≡ recordOf (pushAt c x (rows w))
+      → withTrack w (placeIn w c) (trackOf (push (w .depth) x (rowOf (getD (w .tracks) (placeIn w c) nothing))))
+      ≡ recordOf (w .depth) (pushAt (w .depth) c x (rows w))
   watch-pushed x =
       watch-path
-      (sym (length-pushed c x (rows w) ∙ as-many w c formed there))
-      (sym (ap (λ (k : ℕ). padTo k unused (map trackOf (pushAt c x (rows w)))) (sym (formed-long w formed))
-      ∙ tracks-pushed (w .watched) c x (w .tracks) (formed-tracks w formed) (member w c formed there)))
+      (sym (length-pushed (w .depth) c x (rows w) ∙ as-many w c formed there))
+      refl
+      (sym (ap (λ (k : ℕ). padTo k unused (map trackOf (pushAt (w .depth) c x (rows w)))) (sym (formed-long w formed))
+      ∙ tracks-pushed (w .depth) (w .watched) c x (w .tracks) (formed-tracks w formed) (member w c formed there)))

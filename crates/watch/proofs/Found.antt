@@ -8,8 +8,8 @@ use lib.ListN.{take, getD}
 use Rattle.watch_rules.specs.declared.Watch.{Watch}
 use Rattle.watch_rules.specs.Lists.{mem}
 use Rattle.watch_rules.specs.Rules.{watched}
-use Rattle.watch_rules.specs.Rows.{Row, row, levelsOf, shown}
-use Rattle.watch_rules.specs.Record.{rowOf, rows, trackFine, wellFormed}
+use Rattle.watch_rules.specs.Rows.{Row, row, levelsOf}
+use Rattle.watch_rules.specs.Record.{viewOf, rowOf, rows, trackFine, wellFormed}
 use Rattle.watch_rules.proofs.Encode.{row-track}
 use Rattle.watch_rules.proofs.Calls.{formed-tracks, fine-at, first-watched}
 use Rattle.watch_record.specs.Code.{nothing, channelsOf}
@@ -18,27 +18,28 @@ use Rattle.watch_list.proofs.Tracks.{track-at, place-among, place-outside}
 use Rattle.watch_list.proofs.Watched.{placeIn, found-place}
 
 module _ (w : Watch) (c : ℕ) (formed : wellFormed w ≡ true) where
-  among : watched (shown (rows w)) c ≡ mem c (channelsOf (take (w .watched) (w .tracks)))
-  among = first-watched (rows w) c ∙ ap (mem c) (channels-rows (take (w .watched) (w .tracks)))
+  among : watched (viewOf w) c ≡ mem c (channelsOf (take (w .watched) (w .tracks)))
+  among = first-watched (w .depth) (rows w) c ∙ ap (mem c) (channels-rows (take (w .watched) (w .tracks)))
 
-  pub place-watched : placeIn w c < w .watched → watched (shown (rows w)) c ≡ true
-  place-watched h = among ∙ place-among (w .watched) c (w .tracks) (formed-tracks w formed) h
+  pub place-watched : placeIn w c < w .watched → watched (viewOf w) c ≡ true
+  place-watched h = among ∙ place-among (w .depth) (w .watched) c (w .tracks) (formed-tracks w formed) h
 
-  pub place-unwatched : placeIn w c ≡ w .watched → watched (shown (rows w)) c ≡ false
-  place-unwatched h = among ∙ place-outside (w .watched) c (w .tracks) (formed-tracks w formed) (omega arith)
+  pub place-unwatched : placeIn w c ≡ w .watched → watched (viewOf w) c ≡ false
+  place-unwatched h = among ∙ place-outside (w .depth) (w .watched) c (w .tracks) (formed-tracks w formed) (omega arith)
 
   -- what the code found, in these terms
   module _ {p : ℕ} (e : p ≡ placeIn w c) (n : p ≡ w .watched → ⊥) where
     there : placeIn w c < w .watched
     there = found-place w c formed e n
 
-    pub found-fine : trackFine (getD (w .tracks) p nothing) ≡ true
-    found-fine = fine-at (w .watched) p (w .tracks) nothing (formed-tracks w formed) (omega (arith, e, there))
+    pub found-fine : trackFine (w .depth) (getD (w .tracks) p nothing) ≡ true
+    found-fine = fine-at (w .depth) (w .watched) p (w .tracks) nothing (formed-tracks w formed) (omega (arith, e, there))
 
     -- the levels of a channel under watch are those of the track at its place
     pub found-levels : levelsOf c (rows w) ≡ rowOf (getD (w .tracks) p nothing) .levels
     found-levels =
         ap (λ (r : Row). r .levels)
         (sym (row-track (row c (levelsOf c (rows w))))
-        ∙ ap rowOf (track-at (w .watched) c (w .tracks) (formed-tracks w formed) (place-among (w .watched) c (w .tracks) (formed-tracks w formed) there)))
+        ∙ ap rowOf (track-at (w .depth) (w .watched) c (w .tracks) (formed-tracks w formed)
+        (place-among (w .depth) (w .watched) c (w .tracks) (formed-tracks w formed) there)))
         ∙ ap (λ (i : ℕ). rowOf (getD (w .tracks) i nothing) .levels) (sym e)

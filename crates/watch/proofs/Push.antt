@@ -11,10 +11,10 @@ use lib.ListN.{length, drop, take, getD, set, length-append, length-drop}
 use lib.Seq.{drop-cons, take-suc, drop-append-le, set-at, take-at, drop-at, getD-append-add, getD-drop, length-take-le}
 use Rattle.watch_rules.specs.declared.Track.{Track}
 use Rattle.watch_rules.specs.Lists.{lastN, padTo}
-use Rattle.watch_rules.specs.Limits.{depth, capacity}
+use Rattle.watch_rules.specs.Limits.{depthInRange, capacity}
 use Rattle.watch_rules.specs.Rows.{push}
 use Rattle.watch_rules.specs.Record.{rowOf, trackOf, trackFine}
-use Rattle.watch_rules.proofs.Depth.{depth-above-0, depth-within}
+use Rattle.watch_rules.proofs.Depth.{depth-low, depth-high}
 use Rattle.watch_rules.proofs.Laws.{last-short}
 use Rattle.watch_rules.proofs.Encode.{track-path, track-count, track-long, track-levels}
 use Rattle.watch_list.proofs.NewList.{padTo-snoc}
@@ -31,20 +31,20 @@ padTo-behind (suc n) d (x ∷ xs) h =
 abbrev pub track-with : ℕ → ℕ → List ℤ → Track
 track-with c n l = record { channel = c; count = n; levels = l }
 
-module _ (t : Track) (x : ℤ) (fine : trackFine t ≡ true) where
+module _ (depth : ℕ) (t : Track) (x : ℤ) (fine : trackFine depth t ≡ true) (deep : depthInRange depth ≡ true) where
   kept : List ℤ
   kept = take (t .count) (t .levels)
 
   counted : length kept ≡ t .count
   unfolding kept
-  counted = track-levels t fine .counted
+  counted = track-levels depth t fine .counted
 
   -- the levels are those that are kept, padded
   padded : t .levels ≡ padTo capacity (pos 0) kept
   unfolding kept
-  padded = sym (ap (λ (n : ℕ). padTo n (pos 0) (take (t .count) (t .levels))) (sym (track-long t fine)) ∙ track-levels t fine .padded)
+  padded = sym (ap (λ (n : ℕ). padTo n (pos 0) (take (t .count) (t .levels))) (sym (track-long depth t fine)) ∙ track-levels depth t fine .padded)
 
-  pub pushed-short : t .count < depth → track-with (t .channel) (t .count + 1) (set (t .levels) (t .count) x) ≡ trackOf (push x (rowOf t))
+  pub pushed-short : t .count < depth → track-with (t .channel) (t .count + 1) (set (t .levels) (t .count) x) ≡ trackOf (push depth x (rowOf t))
   unfolding kept
   pushed-short h =
       let s : lastN depth (kept ++ x ∷ []) ≡ kept ++ x ∷ [] = last-short depth (kept ++ x ∷ []) (omega (arith, length-append kept (x ∷ []), counted)) in
@@ -52,26 +52,26 @@ module _ (t : Track) (x : ℤ) (fine : trackFine t ≡ true) where
       track-path refl
       (sym n)
       (ap₂ (λ (l : List ℤ) (k : ℕ). set l k x) padded (sym counted)
-      ∙ padTo-snoc capacity (pos 0) kept x (omega (arith, counted, depth-within))
+      ∙ padTo-snoc capacity (pos 0) kept x (omega (arith, counted, depth-high depth deep))
       ∙ sym (ap (padTo capacity (pos 0)) s)
       )
 
   pub pushed-full : depth ≤ t .count
-      → track-with (t .channel) (t .count) (take (depth - 1) (drop 1 (t .levels)) ++ x ∷ drop depth (t .levels)) ≡ trackOf (push x (rowOf t))
+      → track-with (t .channel) (t .count) (take (depth - 1) (drop 1 (t .levels)) ++ x ∷ drop depth (t .levels)) ≡ trackOf (push depth x (rowOf t))
   unfolding kept
   pushed-full h =
-      let d : length kept ≡ depth = omega (arith, counted, track-count t fine) in
+      let d : length kept ≡ depth = omega (arith, counted, track-count depth t fine) in
       let z : List ℤ = padTo (capacity - depth) (pos 0) [] in
       let newest : List ℤ = drop 1 kept ++ x ∷ [] in
       let l : t .levels ≡ kept ++ z =
-      padded ∙ padTo-behind capacity (pos 0) kept (omega (arith, depth-within)) ∙ ap (λ (n : ℕ). kept ++ padTo (capacity - n) (pos 0) []) d in
+      padded ∙ padTo-behind capacity (pos 0) kept (omega (arith, depth-high depth deep)) ∙ ap (λ (n : ℕ). kept ++ padTo (capacity - n) (pos 0) []) d in
       let e : length (kept ++ x ∷ []) - depth ≡ 1 = omega (arith, length-append kept (x ∷ [])) in
       let s : lastN depth (kept ++ x ∷ []) ≡ newest =
-      ap (λ (j : ℕ). drop j (kept ++ x ∷ [])) e ∙ drop-append-le 1 kept (x ∷ []) (omega (arith, depth-above-0)) in
-      let n : length newest ≡ depth = omega (arith, length-append (drop 1 kept) (x ∷ []), length-drop 1 kept, depth-above-0) in
+      ap (λ (j : ℕ). drop j (kept ++ x ∷ [])) e ∙ drop-append-le 1 kept (x ∷ []) (omega (arith, depth-low depth deep)) in
+      let n : length newest ≡ depth = omega (arith, length-append (drop 1 kept) (x ∷ []), length-drop 1 kept, depth-low depth deep) in
       let front : take (depth - 1) (drop 1 (t .levels)) ≡ drop 1 kept =
       ap (λ (m : List ℤ). take (depth - 1) (drop 1 m)) l
-      ∙ ap (take (depth - 1)) (drop-append-le 1 kept z (omega (arith, depth-above-0)))
+      ∙ ap (take (depth - 1)) (drop-append-le 1 kept z (omega (arith, depth-low depth deep)))
       ∙ take-at (drop 1 kept) z (depth - 1) (omega (arith, length-drop 1 kept)) in
       let behind : drop depth (t .levels) ≡ z = ap (drop depth) l ∙ drop-at kept z depth d in
       track-path refl
@@ -79,7 +79,7 @@ module _ (t : Track) (x : ℤ) (fine : trackFine t ≡ true) where
       (ap₂ (λ (a b : List ℤ). a ++ x ∷ b) front behind
       ∙ sym (append-assoc (drop 1 kept) (x ∷ []) z)
       ∙ ap (λ (k : ℕ). newest ++ padTo (capacity - k) (pos 0) []) (sym n)
-      ∙ sym (padTo-behind capacity (pos 0) newest (omega (arith, n, depth-within)))
+      ∙ sym (padTo-behind capacity (pos 0) newest (omega (arith, n, depth-high depth deep)))
       ∙ sym (ap (padTo capacity (pos 0)) s)
       )
 

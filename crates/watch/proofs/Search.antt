@@ -17,11 +17,10 @@ use Rattle.readings_rules.specs.Ranges.{levelHighest}
 use Rattle.watch_rules.specs.declared.Track.{Track}
 use Rattle.watch_rules.specs.declared.Watch.{Watch}
 use Rattle.watch_rules.specs.Lists.{mem, sum}
-use Rattle.watch_rules.specs.Limits.{depth}
 use Rattle.watch_rules.specs.Told.{wait}
 use Rattle.watch_rules.specs.Rules.{View, servingLevels, target, stayOrMove, verdictOf}
 use Rattle.watch_rules.specs.Rows.{Row, row, channels, levelsOf, shown}
-use Rattle.watch_rules.specs.Record.{rowOf, rows, tracksFine, trackFine, wellFormed}
+use Rattle.watch_rules.specs.Record.{viewOf, rowOf, rows, tracksFine, trackFine, wellFormed}
 use Rattle.watch_rules.proofs.Laws.{byCase, clash, and-left, and-right, and-both, or-true-right, drop-none}
 use Rattle.watch_rules.proofs.Good.{levelsOk, Good, few-levels, ranged-levels}
 use Rattle.watch_rules.proofs.Encode.{track-levels, read-record}
@@ -150,14 +149,14 @@ not-below (pos a) = le-ltb a a (omega arith)
 not-below (negsuc a) = le-ltb a a (omega arith)
 
 -- the sum of levels that are all there
-sum-full : (l : List ℤ) → levelsOk l ≡ true → depth ≤ length l → sum l ≡ pos depth *ℤ levelHighest -ℤ pos (allBelow l)
-sum-full l ok h =
-    let n : length l ≡ depth = omega (arith, few-levels l ok) in
-    sum-below l (ranged-levels l ok) ∙ ap (λ (k : ℕ). pos k *ℤ levelHighest -ℤ pos (allBelow l)) n
+sum-full : (depth : ℕ) (l : List ℤ) → levelsOk depth l ≡ true → depth ≤ length l → sum l ≡ pos depth *ℤ levelHighest -ℤ pos (allBelow l)
+sum-full depth l ok h =
+    let n : length l ≡ depth = omega (arith, few-levels depth l ok) in
+    sum-below l (ranged-levels depth l ok) ∙ ap (λ (k : ℕ). pos k *ℤ levelHighest -ℤ pos (allBelow l)) n
 
-module _ (r : Row) (rs : List Row) (m : ℕ) (good : Good (r ∷ rs)) (served : depth ≤ length (r .levels)) where
+module _ (depth : ℕ) (r : Row) (rs : List Row) (m : ℕ) (good : Good depth (r ∷ rs)) (served : depth ≤ length (r .levels)) where
   abbrev view : View
-  view = shown (r ∷ rs)
+  view = shown depth (r ∷ rs)
 
   abbrev limit : ℕ
   limit = allBelow (r .levels)
@@ -169,24 +168,24 @@ module _ (r : Row) (rs : List Row) (m : ℕ) (good : Good (r ∷ rs)) (served : 
   far c = allBelow (levelsOf c (r ∷ rs))
 
   abbrev cand : ℕ → Bool
-  cand c = able limit margin (levelsOf c (r ∷ rs))
+  cand c = able depth limit margin (levelsOf c (r ∷ rs))
 
   top : ℤ
   top = pos depth *ℤ levelHighest
 
-  ok : (c : ℕ) → levelsOk (levelsOf c (r ∷ rs)) ≡ true
-  ok c = levels-fine c (r ∷ rs) (good .fine)
+  ok : (c : ℕ) → levelsOk depth (levelsOf c (r ∷ rs)) ≡ true
+  ok c = levels-fine depth c (r ∷ rs) (good .fine)
 
   first-levels : levelsOf (r .channel) (r ∷ rs) ≡ r .levels
   first-levels = rw (eq-eqb (r .channel) (r .channel) refl)
 
   serving-sum : sum (servingLevels view) ≡ top -ℤ pos limit
   unfolding top
-  serving-sum = ap sum first-levels ∙ sum-full (r .levels) (subst (λ (l : List ℤ). levelsOk l ≡ true) first-levels (ok (r .channel))) served
+  serving-sum = ap sum first-levels ∙ sum-full depth (r .levels) (subst (λ (l : List ℤ). levelsOk depth l ≡ true) first-levels (ok (r .channel))) served
 
   sum-of : (c : ℕ) → depth ≤ length (levelsOf c (r ∷ rs)) → sum (levelsOf c (r ∷ rs)) ≡ top -ℤ pos (far c)
   unfolding top
-  sum-of c h = sum-full (levelsOf c (r ∷ rs)) (ok c) h
+  sum-of c h = sum-full depth (levelsOf c (r ∷ rs)) (ok c) h
 
   exceeds-is : (c : ℕ) → depth ≤ length (levelsOf c (r ∷ rs))
       → ltZ (sum (servingLevels view) +ℤ pos depth *ℤ pos m) (sum (levelsOf c (r ∷ rs))) ≡ ltb (far c + margin) limit
@@ -209,18 +208,18 @@ module _ (r : Row) (rs : List Row) (m : ℕ) (good : Good (r ∷ rs)) (served : 
   counted c k = and-both (le-leb depth (length (levelsOf c (r ∷ rs))) (k .full)) (sym (exceeds-is c (k .full)) ∙ yes-lt (k .exceeds))
 
   -- going through rows
-  consider-is : (p : Pick) (q : Row) → q .levels ≡ levelsOf (q .channel) (r ∷ rs) → consider limit margin p q ≡ considerC cand far p (q .channel)
+  consider-is : (p : Pick) (q : Row) → q .levels ≡ levelsOf (q .channel) (r ∷ rs) → consider depth limit margin p q ≡ considerC cand far p (q .channel)
   unfolding considerC
-  consider-is p q e = ap (λ (l : List ℤ). consider limit margin p (row (q .channel) l)) e
+  consider-is p q e = ap (λ (l : List ℤ). consider depth limit margin p (row (q .channel) l)) e
 
   scan-best : (qs : List Row) (P : ℕ → Bool) (p : Pick) → Own (r ∷ rs) qs → BestIn cand far P p
-      → BestIn cand far (λ d. mem d (channels qs) || P d) (scan limit margin p qs)
+      → BestIn cand far (λ d. mem d (channels qs) || P d) (scan depth limit margin p qs)
   unfolding Own
   scan-best [] P p o x = x
   scan-best (q ∷ qs) P p o x =
-      subst (λ (Q : ℕ → Bool). BestIn cand far Q (scan limit margin (consider limit margin p q) qs))
+      subst (λ (Q : ℕ → Bool). BestIn cand far Q (scan depth limit margin (consider depth limit margin p q) qs))
       (fun-ext (λ d. swap-or (mem d (channels qs)) (eqb (q .channel) d) (P d)))
-      (scan-best qs (with-one cand far (q .channel) P) (consider limit margin p q) (o .1)
+      (scan-best qs (with-one cand far (q .channel) P) (consider depth limit margin p q) (o .1)
       (subst (BestIn cand far (with-one cand far (q .channel) P)) (sym (consider-is p q (o .0))) (consider-best cand far P p (q .channel) x)))
 
   -- the greatest sum is the least distance
@@ -263,54 +262,56 @@ module _ (r : Row) (rs : List Row) (m : ℕ) (good : Good (r ∷ rs)) (served : 
       ∙ sym (ap (λ (b : Bool). cond b (some (p .channel)) none) (f .there))
 
   -- the one moved to is the one found by going through the list
-  target-is : Ranged view → target view (pos m) ≡ chosen (scan limit margin nobody rs)
+  target-is : Ranged view → target view (pos m) ≡ chosen (scan depth limit margin nobody rs)
   target-is ranged =
-      target-of ranged (scan limit margin nobody rs)
+      target-of ranged (scan depth limit margin nobody rs)
       (scan-best rs (λ d. false) nobody (own-rest r rs (good .apart)) (inl (record { none-yet = refl; unable = λ c n. clash n refl })))
 
-  verdict-is : Ranged view → verdictOf view (pos m) ≡ stayOrMove (chosen (scan limit margin nobody rs))
+  verdict-is : Ranged view → verdictOf view (pos m) ≡ stayOrMove (chosen (scan depth limit margin nobody rs))
   verdict-is ranged =
-      verdict-full view (pos m) (yes-full (servingLevels view) (subst (λ (l : List ℤ). depth ≤ length l) (sym first-levels) served))
+      verdict-full view (pos m) (yes-full depth (servingLevels view) (subst (λ (l : List ℤ). depth ≤ length l) (sym first-levels) served))
       ∙ ap stayOrMove (target-is ranged)
 
-verdict-early : (r : Row) (rs : List Row) (h : ℤ) → length (r .levels) < depth → verdictOf (shown (r ∷ rs)) h ≡ wait
-verdict-early r rs h few =
+verdict-early : (depth : ℕ) (r : Row) (rs : List Row) (h : ℤ) → length (r .levels) < depth → verdictOf (shown depth (r ∷ rs)) h ≡ wait
+verdict-early depth r rs h few =
     let e : levelsOf (r .channel) (r ∷ rs) ≡ r .levels = rw (eq-eqb (r .channel) (r .channel) refl) in
-    verdict-waits (shown (r ∷ rs)) h (no-full (servingLevels (shown (r ∷ rs))) (subst (λ (l : List ℤ). length l < depth) (sym e) few))
+    verdict-waits (shown depth (r ∷ rs)) h (no-full depth (servingLevels (shown depth (r ∷ rs))) (subst (λ (l : List ℤ). length l < depth) (sym e) few))
 
 -- ---- of a watch
 
-by-tracks : (n : ℕ) (ts : List Track) (m : ℕ) → tracksFine n ts ≡ true → (n ≡ 0 → ⊥) → Good (map rowOf (take n ts)) → Ranged (shown (map rowOf (take n ts)))
+by-tracks : (depth n : ℕ) (ts : List Track) (m : ℕ) → tracksFine depth n ts ≡ true → (n ≡ 0 → ⊥) → Good depth (map rowOf (take n ts))
+    → Ranged (shown depth (map rowOf (take n ts)))
     → depth ≤ length (rowOf (getD ts 0 nothing) .levels)
-    → verdictOf (shown (map rowOf (take n ts))) (pos m)
-    ≡ stayOrMove (chosen (scan (allBelow (rowOf (getD ts 0 nothing) .levels)) (depth * m) nobody (map rowOf (drop 1 (take n ts)))))
-by-tracks zero ts m e z g d h = absurd (z refl)
-by-tracks (suc n) [] m e z g d h = clash e refl
-by-tracks (suc n) (t ∷ ts) m e z g d h =
-    verdict-is (rowOf t) (map rowOf (take n ts)) m g h d
-    ∙ ap (λ (us : List Track). stayOrMove (chosen (scan (allBelow (rowOf t .levels)) (depth * m) nobody (map rowOf us)))) (sym (drop-none (take n ts)))
+    → verdictOf (shown depth (map rowOf (take n ts))) (pos m)
+    ≡ stayOrMove (chosen (scan depth (allBelow (rowOf (getD ts 0 nothing) .levels)) (depth * m) nobody (map rowOf (drop 1 (take n ts)))))
+by-tracks depth zero ts m e z g d h = absurd (z refl)
+by-tracks depth (suc n) [] m e z g d h = clash e refl
+by-tracks depth (suc n) (t ∷ ts) m e z g d h =
+    verdict-is depth (rowOf t) (map rowOf (take n ts)) m g h d
+    ∙ ap (λ (us : List Track). stayOrMove (chosen (scan depth (allBelow (rowOf t .levels)) (depth * m) nobody (map rowOf us)))) (sym (drop-none (take n ts)))
 
-early-tracks : (n : ℕ) (ts : List Track) (h : ℤ) → tracksFine n ts ≡ true → (n ≡ 0 → ⊥) → length (rowOf (getD ts 0 nothing) .levels) < depth
-    → verdictOf (shown (map rowOf (take n ts))) h ≡ wait
-early-tracks zero ts h e z few = absurd (z refl)
-early-tracks (suc n) [] h e z few = clash e refl
-early-tracks (suc n) (t ∷ ts) h e z few = verdict-early (rowOf t) (map rowOf (take n ts)) h few
+early-tracks : (depth n : ℕ) (ts : List Track) (h : ℤ) → tracksFine depth n ts ≡ true → (n ≡ 0 → ⊥) → length (rowOf (getD ts 0 nothing) .levels) < depth
+    → verdictOf (shown depth (map rowOf (take n ts))) h ≡ wait
+early-tracks depth zero ts h e z few = absurd (z refl)
+early-tracks depth (suc n) [] h e z few = clash e refl
+early-tracks depth (suc n) (t ∷ ts) h e z few = verdict-early depth (rowOf t) (map rowOf (take n ts)) h few
 
 module _ (w : Watch) (formed : wellFormed w ≡ true) (active : w .watched ≡ 0 → ⊥) where
   abbrev pub server : Track
   server = getD (w .tracks) 0 nothing
 
-  pub server-fine : trackFine server ≡ true
-  server-fine = fine-at (w .watched) 0 (w .tracks) nothing (formed-tracks w formed) (omega arith)
+  pub server-fine : trackFine (w .depth) server ≡ true
+  server-fine = fine-at (w .depth) (w .watched) 0 (w .tracks) nothing (formed-tracks w formed) (omega arith)
 
   server-count : length (rowOf server .levels) ≡ server .count
-  server-count = track-levels server server-fine .counted
+  server-count = track-levels (w .depth) server server-fine .counted
 
-  pub watch-waits : (h : ℤ) → server .count < depth → verdictOf (shown (rows w)) h ≡ wait
-  watch-waits h few = early-tracks (w .watched) (w .tracks) h (formed-tracks w formed) active (omega (arith, server-count))
+  pub watch-waits : (h : ℤ) → server .count < w .depth → verdictOf (viewOf w) h ≡ wait
+  watch-waits h few = early-tracks (w .depth) (w .watched) (w .tracks) h (formed-tracks w formed) active (omega (arith, server-count))
 
-  pub watch-settled : (m : ℕ) → depth ≤ server .count
-      → verdictOf (shown (rows w)) (pos m)
-      ≡ stayOrMove (chosen (scan (allBelow (rowOf server .levels)) (depth * m) nobody (map rowOf (drop 1 (take (w .watched) (w .tracks))))))
+  pub watch-settled : (m : ℕ) → w .depth ≤ server .count
+      → verdictOf (viewOf w) (pos m)
+      ≡ stayOrMove (chosen (scan (w .depth) (allBelow (rowOf server .levels)) (w .depth * m) nobody (map rowOf (drop 1 (take (w .watched) (w .tracks))))))
   watch-settled m h =
-      by-tracks (w .watched) (w .tracks) m (formed-tracks w formed) active (read-record w formed .good) (formed-ranged w formed) (omega (arith, server-count))
+      by-tracks (w .depth) (w .watched) (w .tracks) m (formed-tracks w formed) active (read-record w formed .good)
+      (formed-ranged w formed) (omega (arith, server-count))

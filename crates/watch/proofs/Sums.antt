@@ -16,10 +16,9 @@ use mir.Val.{SFits}
 use Rattle.readings_rules.specs.Ranges.{levelHighest, levelInRange}
 use Rattle.watch_rules.specs.declared.Track.{Track}
 use Rattle.watch_rules.specs.Lists.{every, sum}
-use Rattle.watch_rules.specs.Limits.{depth}
+use Rattle.watch_rules.specs.Limits.{capacity}
 use Rattle.watch_rules.specs.Rules.{mean}
 use Rattle.watch_rules.specs.Record.{levelsFine, trackFine, rowOf}
-use Rattle.watch_rules.proofs.Depth.{depth-is}
 use Rattle.watch_rules.proofs.Laws.{byCase, clash, and-left, and-right}
 use Rattle.watch_rules.proofs.Encode.{LevelsRead, track-count, track-levels}
 use Rattle.watch.specs.Code.{belowTop, allBelow, levelSpan, spanInAll, meanBelow}
@@ -47,11 +46,11 @@ below-most (x ∷ l) e =
     omega arith
 
 -- of a track
-pub track-below-most : (t : Track) → trackFine t ≡ true → allBelow (rowOf t .levels) ≤ spanInAll
+pub track-below-most : (t : Track) → trackFine capacity t ≡ true → allBelow (rowOf t .levels) ≤ spanInAll
 track-below-most t f =
-    let r : LevelsRead (t .count) (t .levels) = track-levels t f in
+    let r : LevelsRead (t .count) (t .levels) = track-levels capacity t f in
     let b = below-most (rowOf t .levels) (r .ranged) in
-    omega (arith, r .counted, track-count t f)
+    omega (arith, r .counted, track-count capacity t f)
 
 pub range-at : (n j : ℕ) (l : List ℤ) → levelsFine n l ≡ true → j < n → levelInRange (getD l j (pos 0)) ≡ true
 range-at zero j l e h = absurd (omega arith)
@@ -94,19 +93,19 @@ mean-none [] h = refl
 mean-none (x ∷ l) h = absurd (omega arith)
 
 -- of a track
-module _ (t : Track) (fine : trackFine t ≡ true) where
+module _ (t : Track) (fine : trackFine capacity t ≡ true) where
   pub track-mean : 0 < t .count → mean (rowOf t .levels) ≡ meanBelow (allBelow (rowOf t .levels)) (t .count)
   track-mean h =
-      let r : LevelsRead (t .count) (t .levels) = track-levels t fine in
+      let r : LevelsRead (t .count) (t .levels) = track-levels capacity t fine in
       mean-is (rowOf t .levels) (r .ranged) (omega (arith, r .counted))
       ∙ ap (meanBelow (allBelow (rowOf t .levels))) (r .counted)
 
   pub track-no-mean : t .count ≡ 0 → mean (rowOf t .levels) ≡ pos 0
-  track-no-mean h = mean-none (rowOf t .levels) (track-levels t fine .counted ∙ h)
+  track-no-mean h = mean-none (rowOf t .levels) (track-levels capacity t fine .counted ∙ h)
 
 -- ---- what fits
 
-pub rounded-small : (n k : ℕ) → n ≤ spanInAll → k ≤ depth → (n + (k - 1)) / k ≤ spanInAll + depth
+pub rounded-small : (n k : ℕ) → n ≤ spanInAll → k ≤ capacity → (n + (k - 1)) / k ≤ spanInAll + capacity
 rounded-small n k h g = let e = div-le-self (n + (k - 1)) k in omega arith
 
 minus-size : (t : ℤ) (m : ℕ) → mag (t -ℤ pos m) ≤ natAbs t + m
@@ -115,8 +114,8 @@ minus-size (pos a) (suc m) = byCase (ltb a (suc m)) (λ e. rw e (omega arith)) (
 minus-size (negsuc a) zero = byCase (ltb 0 (suc a)) (λ e. rw e (omega arith)) (λ e. rw e (omega arith))
 minus-size (negsuc a) (suc m) = omega arith
 
-pub distance-fits : (m : ℕ) → m ≤ spanInAll + depth → SFits w32 (pos m)
-distance-fits m h = record { sfits = omega (arith, depth-is) }
+pub distance-fits : (m : ℕ) → m ≤ spanInAll + capacity → SFits w32 (pos m)
+distance-fits m h = record { sfits = omega arith }
 
-pub below-top-fits : (m : ℕ) → m ≤ spanInAll + depth → SFits w32 (levelHighest -ℤ pos m)
-below-top-fits m h = record { sfits = omega (arith, minus-size levelHighest m, depth-is) }
+pub below-top-fits : (m : ℕ) → m ≤ spanInAll + capacity → SFits w32 (levelHighest -ℤ pos m)
+below-top-fits m h = record { sfits = omega (arith, minus-size levelHighest m) }

@@ -8,11 +8,11 @@ ghost use lib.IntN.{pos};
 ghost use lib.ListN.{take, drop, getD};
 ghost use Rattle.refusal.specs.Told.{gives};
 ghost use Rattle.readings_rules.specs.Ranges.{levelInRange};
-ghost use Rattle.watch_rules.specs.Limits.{hysteresisInRange, hysteresisHighest, depth, room};
+ghost use Rattle.watch_rules.specs.Limits.{hysteresisInRange, hysteresisHighest, depthInRange, capacity, room};
 ghost use Rattle.watch_rules.specs.Told.{Call, told, toldHanded};
 ghost use Rattle.watch_rules.specs.Rules.{mean, verdictOf};
-ghost use Rattle.watch_rules.specs.Rows.{push, shown};
-ghost use Rattle.watch_rules.specs.Record.{trackOf, rowOf, rows, trackFine, tracksFine, wellFormed, called};
+ghost use Rattle.watch_rules.specs.Rows.{push};
+ghost use Rattle.watch_rules.specs.Record.{viewOf, trackOf, rowOf, trackFine, tracksFine, wellFormed, called};
 ghost use Rattle.watch_record.specs.Code.{nothing};
 ghost use Rattle.watch.specs.Code.{withTrack, spanInAll, marginMost, belowTop, allBelow, meanBelow, betterOf, consider, scan, nobody};
 use readings::Burst;
@@ -29,15 +29,11 @@ use watch_record::place;
 use watch_record::refused;
 use watch_record::well_formed;
 use watch_rules::Answer;
-use watch_rules::DEPTH;
 use watch_rules::HYSTERESIS_HIGHEST;
 use watch_rules::Handed;
 use watch_rules::ROOM;
 use watch_rules::Track;
 use watch_rules::Watch;
-
-// The place of the newest level in a track that is full.
-const NEWEST: usize = DEPTH - 1;
 
 // The best neighbour so far, if there is one: its channel, and how far its levels are below the top of the range in all.
 struct Pick {
@@ -46,36 +42,37 @@ struct Pick {
     below: u32,
 }
 
-// The track with one more level, the newest; beyond 15 the oldest goes.
-fn pushed(t: Track, level: i32) -> Track
-    requires { ⌜ trackFine t ≡ true ⌝ }
-    ensures { λ r. ⌜ r ≡ trackOf (push level (rowOf t)) ⌝ }
+// The track with one more level, the newest; beyond the depth the oldest goes.
+fn pushed(t: Track, depth: usize, level: i16) -> Track
+    requires { ⌜ (trackFine depth t ≡ true) × (depthInRange depth ≡ true) ⌝ }
+    ensures { λ r. ⌜ r ≡ trackOf (push depth level (rowOf t)) ⌝ }
 {
     let mut u = t;
     let n = u.count;
-    if n < DEPTH {
+    if n < depth {
         u.levels[n] = level;
         u.count = n + 1;
         return u;
     }
+    let newest = depth - 1;
     let mut i = 0;
-    while i < NEWEST {
+    while i < newest {
         let x = u.levels[i + 1];
         u.levels[i] = x;
         i += 1;
     }
-    u.levels[NEWEST] = level;
+    u.levels[newest] = level;
     u
 }
 
 // The watch with one more level in the track at place p.
 fn with_level(w: Watch, p: usize, level: i32) -> Watch
-    requires { ⌜ (p < room) × (trackFine (getD (w .tracks) p nothing) ≡ true) ⌝ }
-    ensures { λ r. ⌜ r ≡ withTrack w p (trackOf (push level (rowOf (getD (w .tracks) p nothing)))) ⌝ }
+    requires { ⌜ (p < room) × (trackFine (w .depth) (getD (w .tracks) p nothing) ≡ true) × (depthInRange (w .depth) ≡ true) × (levelInRange level ≡ true) ⌝ }
+    ensures { λ r. ⌜ r ≡ withTrack w p (trackOf (push (w .depth) level (rowOf (getD (w .tracks) p nothing)))) ⌝ }
 {
     let mut v = w;
     let t = v.tracks[p];
-    let u = pushed(t, level);
+    let u = pushed(t, v.depth, level as i16);
     v.tracks[p] = u;
     v
 }
@@ -113,7 +110,7 @@ fn below_top(level: i32) -> u32
 
 // How far a track's levels are below the top of the range in all.
 fn total(t: Track) -> u32
-    requires { ⌜ trackFine t ≡ true ⌝ }
+    requires { ⌜ trackFine capacity t ≡ true ⌝ }
     ensures { λ r. ⌜ r ≡ allBelow (rowOf t .levels) ⌝ }
 {
     let n = t.count;
@@ -121,7 +118,7 @@ fn total(t: Track) -> u32
     let mut j = 0;
     while j < n {
         let x = t.levels[j];
-        sum += below_top(x);
+        sum += below_top(x as i32);
         j += 1;
     }
     sum
@@ -129,7 +126,7 @@ fn total(t: Track) -> u32
 
 // The mean of k levels, rounded down, that are `sum` below the top of the range in all.
 fn mean_below(sum: u32, k: u32) -> i32
-    requires { ⌜ (sum ≤ spanInAll) × (0 < k) × (k ≤ depth) ⌝ }
+    requires { ⌜ (sum ≤ spanInAll) × (0 < k) × (k ≤ capacity) ⌝ }
     ensures { λ r. ⌜ r ≡ meanBelow sum k ⌝ }
 {
     LEVEL_HIGHEST - (((sum + (k - 1)) / k) as i32)
@@ -137,7 +134,7 @@ fn mean_below(sum: u32, k: u32) -> i32
 
 // The mean of a track's levels, rounded down; 0 of none.
 fn mean_of(t: Track) -> i32
-    requires { ⌜ trackFine t ≡ true ⌝ }
+    requires { ⌜ trackFine capacity t ≡ true ⌝ }
     ensures { λ r. ⌜ r ≡ mean (rowOf t .levels) ⌝ }
 {
     let k = t.count;
@@ -184,13 +181,13 @@ fn better(p: Pick, q: Pick) -> Pick
     q
 }
 
-// The best so far with one track more. It counts if it has 15 levels and is less below the top than the limit, by more than the margin.
-fn considered(p: Pick, t: Track, limit: u32, margin: u32) -> Pick
-    requires { ⌜ (trackFine t ≡ true) × (margin ≤ marginMost) ⌝ }
-    ensures { λ r. ⌜ r ≡ consider limit margin p (rowOf t) ⌝ }
+// The best so far with one track more. It counts if it has as many levels as the depth and is less below the top than the limit, by more than the margin.
+fn considered(p: Pick, t: Track, depth: usize, limit: u32, margin: u32) -> Pick
+    requires { ⌜ (trackFine capacity t ≡ true) × (margin ≤ marginMost) ⌝ }
+    ensures { λ r. ⌜ r ≡ consider depth limit margin p (rowOf t) ⌝ }
 {
     let sum = total(t);
-    if (t.count < DEPTH) | (limit <= sum + margin) {
+    if (t.count < depth) | (limit <= sum + margin) {
         return p;
     }
     let q = Pick {
@@ -202,9 +199,9 @@ fn considered(p: Pick, t: Track, limit: u32, margin: u32) -> Pick
 }
 
 // The best of the neighbours, the tracks from the second to the n-th.
-fn best(tracks: [Track; ROOM], n: usize, limit: u32, margin: u32) -> Pick
-    requires { ⌜ (0 < n) × (n ≤ room) × (tracksFine n tracks ≡ true) × (margin ≤ marginMost) ⌝ }
-    ensures { λ r. ⌜ r ≡ scan limit margin nobody (map rowOf (drop 1 (take n tracks))) ⌝ }
+fn best(tracks: [Track; ROOM], n: usize, depth: usize, limit: u32, margin: u32) -> Pick
+    requires { ⌜ (0 < n) × (n ≤ room) × (tracksFine depth n tracks ≡ true) × (margin ≤ marginMost) × (depth ≤ capacity) ⌝ }
+    ensures { λ r. ⌜ r ≡ scan depth limit margin nobody (map rowOf (drop 1 (take n tracks))) ⌝ }
 {
     let mut p = Pick {
         found: false,
@@ -214,25 +211,26 @@ fn best(tracks: [Track; ROOM], n: usize, limit: u32, margin: u32) -> Pick
     let mut i = 1;
     while i < n {
         let t = tracks[i];
-        p = considered(p, t, limit, margin);
+        p = considered(p, t, depth, limit, margin);
         i += 1;
     }
     p
 }
 
-// The verdict of a watch that has a serving channel: wait while that has fewer than 15 levels; else move to the best neighbour that
+// The verdict of a watch that has a serving channel: wait while that has fewer levels than the depth; else move to the best neighbour that
 // counts, or stay.
 fn judged(w: Watch, hysteresis: u32) -> Answer
     requires { ⌜ (wellFormed w ≡ true) × (0 < w .watched) × (hysteresis ≤ hysteresisHighest) ⌝ }
-    ensures { λ r. ⌜ told r ≡ gives (verdictOf (shown (rows w)) (pos hysteresis)) ⌝ }
+    ensures { λ r. ⌜ told r ≡ gives (verdictOf (viewOf w) (pos hysteresis)) ⌝ }
 {
     let tracks = w.tracks;
     let s = tracks[0];
-    if s.count < DEPTH {
+    let depth = w.depth;
+    if s.count < depth {
         return Answer::Wait;
     }
-    let margin = (DEPTH as u32) * hysteresis;
-    let p = best(tracks, w.watched, total(s), margin);
+    let margin = (depth as u32) * hysteresis;
+    let p = best(tracks, w.watched, depth, total(s), margin);
     if !p.found {
         return Answer::Stay;
     }

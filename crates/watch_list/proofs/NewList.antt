@@ -97,13 +97,13 @@ module _ (s : ℕ) (rs : List Row) where
       ∙ ap tracksFor (sym (more l i h))
 
 -- the first track is that of the serving channel's row
-pub first-track : (n : ℕ) (ts : List Track) → 0 < n → tracksFine n ts ≡ true
+pub first-track : (d n : ℕ) (ts : List Track) → 0 < n → tracksFine d n ts ≡ true
     → getD ts 0 nothing ≡ trackOf (row (getD ts 0 nothing .channel) (levelsOf (getD ts 0 nothing .channel) (map rowOf (take n ts))))
-first-track zero ts h e = absurd (omega arith)
-first-track (suc n) [] h e = clash e refl
-first-track (suc n) (t ∷ ts) h e =
+first-track d zero ts h e = absurd (omega arith)
+first-track d (suc n) [] h e = clash e refl
+first-track d (suc n) (t ∷ ts) h e =
     sym (ap (λ (b : Bool). trackOf (row (t .channel) (cond b (rowOf t .levels) (levelsOf (t .channel) (map rowOf (take n ts)))))) (eq-eqb (t .channel) (t .channel) refl)
-    ∙ track-read t (and-left (trackFine t) (tracksFine n ts) e) .back)
+    ∙ track-read d t (and-left (trackFine d t) (tracksFine d n ts) e) .back)
 
 -- what a new list makes of a watch that has a serving channel
 listed-is : (n : ℕ) (ts : List Track) (l : List ℕ) → (n ≡ 0 → ⊥) → n ≤ length ts
@@ -113,6 +113,6 @@ listed-is (suc n) [] l z h = absurd (omega arith)
 listed-is (suc n) (t ∷ ts) l z h = refl
 
 pub watch-listed : (w : Watch) (l : List ℕ) → wellFormed w ≡ true → (w .watched ≡ 0 → ⊥)
-    → recordOf (relisted (getD (w .tracks) 0 nothing .channel) l (rows w)) ≡ recordOf (listed l (rows w))
+    → recordOf (w .depth) (relisted (getD (w .tracks) 0 nothing .channel) l (rows w)) ≡ recordOf (w .depth) (listed l (rows w))
 watch-listed w l f z =
-    ap recordOf (listed-is (w .watched) (w .tracks) l z (omega (arith, formed-long w f, formed-short w f)))
+    ap (recordOf (w .depth)) (listed-is (w .watched) (w .tracks) l z (omega (arith, formed-long w f, formed-short w f)))

@@ -20,20 +20,21 @@ use Rattle.watch_record.proofs.Scan.{channels-rows, place-within, place-without
 use Rattle.watch_list.specs.Code.{keptFrom}
 
 -- the track at the place of a channel is that of the channel's row
-pub track-at : (n c : ℕ) (ts : List Track) → tracksFine n ts ≡ true → mem c (channelsOf (take n ts)) ≡ true
+pub track-at : (d n c : ℕ) (ts : List Track) → tracksFine d n ts ≡ true → mem c (channelsOf (take n ts)) ≡ true
     → trackOf (row c (levelsOf c (map rowOf (take n ts)))) ≡ getD ts (placeOf c (take n ts)) nothing
-track-at zero c [] e h = clash h refl
-track-at zero c (t ∷ ts) e h = clash h refl
-track-at (suc n) c [] e h = clash e refl
-track-at (suc n) c (t ∷ ts) e h =
+track-at d zero c [] e h = clash h refl
+track-at d zero c (t ∷ ts) e h = clash h refl
+track-at d (suc n) c [] e h = clash e refl
+track-at d (suc n) c (t ∷ ts) e h =
     byCase (eqb (t .channel) c)
-    (λ q. rw q (ap (λ (k : ℕ). trackOf (row k (take (t .count) (t .levels)))) (sym (eqb-true (t .channel) c q)) ∙ track-read t (and-left (trackFine t) (tracksFine n ts) e) .back))
-    (λ q. rw q (track-at n c ts (and-right (trackFine t) (tracksFine n ts) e) (or-true-right (eqb (t .channel) c) (mem c (channelsOf (take n ts))) h q)))
+    (λ q. rw q (ap (λ (k : ℕ). trackOf (row k (take (t .count) (t .levels)))) (sym (eqb-true (t .channel) c q))
+    ∙ track-read d t (and-left (trackFine d t) (tracksFine d n ts) e) .back))
+    (λ q. rw q (track-at d n c ts (and-right (trackFine d t) (tracksFine d n ts) e) (or-true-right (eqb (t .channel) c) (mem c (channelsOf (take n ts))) h q)))
 
 -- a place below n is that of a channel among them, n that of any other
-module _ (n c : ℕ) (ts : List Track) (fine : tracksFine n ts ≡ true) where
+module _ (d n c : ℕ) (ts : List Track) (fine : tracksFine d n ts ≡ true) where
   as-many : length (take n ts) ≡ n
-  as-many = length-take-le n ts (tracks-read n ts fine .within)
+  as-many = length-take-le n ts (tracks-read d n ts fine .within)
 
   pub place-among : placeOf c (take n ts) < n → mem c (channelsOf (take n ts)) ≡ true
   place-among h = place-within c (take n ts) (omega (arith, as-many))
@@ -46,7 +47,7 @@ module _ (n c : ℕ) (ts : List Track) (fine : tracksFine n ts ≡ true) where
   kept-levels =
       byCase (ltb (placeOf c (take n ts)) n)
       (λ q. ap (λ (b : Bool). cond b (renamed (getD ts (placeOf c (take n ts)) nothing)) (trackOf (row c []))) q
-      ∙ ap renamed (sym (track-at n c ts fine (place-among (ltb-true (placeOf c (take n ts)) n q)))))
+      ∙ ap renamed (sym (track-at d n c ts fine (place-among (ltb-true (placeOf c (take n ts)) n q)))))
       (λ q. ap (λ (b : Bool). cond b (renamed (getD ts (placeOf c (take n ts)) nothing)) (trackOf (row c []))) q
       ∙ sym (ap (λ (l : List ℤ). trackOf (row c l)) (levels-none c (map rowOf (take n ts))
       (ap (mem c) (channels-rows (take n ts)) ∙ place-outside (ltb-false (placeOf c (take n ts)) n q)))))

@@ -55,11 +55,11 @@ neighbour-later c (t ∷ us) h e =
 module _ (w : Watch) (c : ℕ) (formed : wellFormed w ≡ true) where
   pub outside-no-neighbour : placeIn w c ≡ w .watched → mem c (channels (rest (rows w))) ≡ false
   outside-no-neighbour h =
-      neighbour-none c (take (w .watched) (w .tracks)) (place-outside (w .watched) c (w .tracks) (formed-tracks w formed) (omega arith))
+      neighbour-none c (take (w .watched) (w .tracks)) (place-outside (w .depth) (w .watched) c (w .tracks) (formed-tracks w formed) (omega arith))
 
   pub serving-no-neighbour : placeIn w c ≡ 0 → mem c (channels (rest (rows w))) ≡ false
   serving-no-neighbour e =
       neighbour-first c (take (w .watched) (w .tracks)) e (ap distinct (sym (channels-rows (take (w .watched) (w .tracks)))) ∙ read-record w formed .good .apart)
 
   pub later-neighbour : 0 < placeIn w c → placeIn w c < w .watched → mem c (channels (rest (rows w))) ≡ true
-  later-neighbour l h = neighbour-later c (take (w .watched) (w .tracks)) l (place-among (w .watched) c (w .tracks) (formed-tracks w formed) h)
+  later-neighbour l h = neighbour-later c (take (w .watched) (w .tracks)) l (place-among (w .depth) (w .watched) c (w .tracks) (formed-tracks w formed) h)

@@ -25,4 +25,4 @@ servingOf (suc n) s = some s
 
 -- a watch with its first track and the one at place p exchanged
 abbrev pub exchange : Watch → ℕ → Watch
-exchange w p = record { watched = w .watched; tracks = set (set (w .tracks) 0 (getD (w .tracks) p nothing)) p (getD (w .tracks) 0 nothing) }
+exchange w p = record { watched = w .watched; tracks = set (set (w .tracks) 0 (getD (w .tracks) p nothing)) p (getD (w .tracks) 0 nothing); depth = w .depth }

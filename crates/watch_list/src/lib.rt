@@ -18,6 +18,7 @@ ghost use Rattle.watch_list.specs.Code.{keptFrom, servingOf, exchange};
 use readings_rules::CHANNEL_HIGHEST;
 use refusal::Refusal;
 use watch_record::answered;
+use watch_record::depth_in_range;
 use watch_record::empty;
 use watch_record::fresh;
 use watch_record::place;
@@ -30,12 +31,15 @@ use watch_rules::ROOM;
 use watch_rules::Track;
 use watch_rules::Watch;
 
-// Start: that channel alone, without levels.
-pub fn start(w: Watch, serving: u16) -> Handed
-    ensures { λ r. ⌜ toldHanded r ≡ called w (Call.start serving) ⌝ }
+// Start: that channel alone, without levels, at this depth.
+pub fn start(w: Watch, serving: u16, depth: usize) -> Handed
+    ensures { λ r. ⌜ toldHanded r ≡ called w (Call.start serving depth) ⌝ }
 {
     if !well_formed(w) {
         return refused(w, Refusal::RecordNotWellFormed);
+    }
+    if !depth_in_range(depth) {
+        return refused(w, Refusal::ParameterOutOfRange);
     }
     if serving > CHANNEL_HIGHEST {
         return refused(w, Refusal::ChannelOutOfRange);
@@ -44,6 +48,7 @@ pub fn start(w: Watch, serving: u16) -> Handed
     let t = empty(serving);
     started.tracks[0] = t;
     started.watched = 1;
+    started.depth = depth;
     answered(started, Answer::Accepted)
 }
 
@@ -103,9 +108,9 @@ fn kept(old: [Track; ROOM], n: usize, p: usize, channel: u16) -> Track
 }
 
 // The serving channel, which is the first, and the channels of the list, in this order, each with the levels that it had.
-fn relist(old: [Track; ROOM], n: usize, list: &[u16]) -> Watch
-    requires { ⌜ (0 < n) × (n ≤ room) × (tracksFine n old ≡ true) × (length (now list) ≤ listLimit) ⌝ }
-    ensures { λ r. ⌜ r ≡ recordOf (relisted (getD old 0 nothing .channel) (now (list .entry)) (map rowOf (take n old))) ⌝ }
+fn relist(old: [Track; ROOM], n: usize, depth: usize, list: &[u16]) -> Watch
+    requires { ⌜ (0 < n) × (n ≤ room) × (tracksFine depth n old ≡ true) × (length (now list) ≤ listLimit) ⌝ }
+    ensures { λ r. ⌜ r ≡ recordOf depth (relisted (getD old 0 nothing .channel) (now (list .entry)) (map rowOf (take n old))) ⌝ }
 {
     let mut v = fresh();
     let s = old[0];
@@ -122,6 +127,7 @@ fn relist(old: [Track; ROOM], n: usize, list: &[u16]) -> Watch
         i += 1;
     }
     v.watched = k + 1;
+    v.depth = depth;
     v
 }
 
@@ -141,7 +147,7 @@ pub fn new_list(w: Watch, list: &[u16]) -> Handed
     if n == 0 {
         return refused(w, Refusal::NotWatched);
     }
-    let listed = relist(tracks, n, list);
+    let listed = relist(tracks, n, w.depth, list);
     answered(listed, Answer::Accepted)
 }
 

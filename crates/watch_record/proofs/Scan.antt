@@ -1,7 +1,7 @@
 -- The tests of a record as the code makes them, from place to place: what is left to test from a place on, and one place more.
 use Prim.Native.Nat.{ℕ, zero, suc, _+_, _-_, _≤_, _<_, suc-le-suc}
 use mathlib.Core.Path.{_≡_, refl, sym, ap, ap₂, _∙_}
-use mathlib.Core.Bool.{Bool, true, false, not, cond, _&&_, _||_, or-assoc, and-assoc, and-false}
+use mathlib.Core.Bool.{Bool, true, false, not, cond, _&&_, _||_, or-assoc, and-true, and-false}
 use mathlib.Core.List.{List, [], _∷_, _++_, map}
 use native.Mathlib.Omega.{arith}
 use native.Mathlib.Numerals.{add-one}
@@ -9,11 +9,11 @@ use lib.Dec.{eqb, leb, ltb}
 use lib.IntN.{ℤ, pos, negsuc}
 use lib.ListN.{length, drop, take, getD, length-take, drop-of-length-le}
 use lib.Seq.{drop-cons, take-suc, split-at, take-take, getD-take}
-use mir.Syntax.{w32}
+use mir.Syntax.{w16}
 use mir.Val.{SFits, ofZ}
 use borrow.Author.Tests.{eqb-true, ne-eqb, le-leb, lt-leb, leb-true, leb-false, ltb-true, ltb-false}
 use Rattle.watch_rules.specs.declared.Track.{Track}
-use Rattle.watch_rules.specs.Lists.{mem, every, distinct}
+use Rattle.watch_rules.specs.Lists.{mem, distinct}
 use Rattle.readings_rules.specs.Ranges.{levelInRange}
 use Rattle.watch_rules.specs.Rows.{channels}
 use Rattle.watch_rules.specs.Record.{rowOf, isZero, levelsFine, trackFine, trackUnused, tracksFine}
@@ -28,118 +28,85 @@ from-place j l d inside = drop-cons l j d inside ∙ ap (λ (k : ℕ). getD l j 
 -- ---- the tracks of a record: the first n fine, the others unused
 
 -- one place more
-pub one-place : (n j : ℕ) (l : List Track) → j < length l
-    → tracksFine (n - j) (drop j l)
-    ≡ (cond (ltb j n) (trackFine (getD l j nothing)) (trackUnused (getD l j nothing)) && tracksFine (n - (j + 1)) (drop (j + 1) l))
-one-place n j l inside = byCase (ltb j n) among after
+pub one-place : (d n j : ℕ) (l : List Track) → j < length l
+    → tracksFine d (n - j) (drop j l)
+    ≡ (cond (ltb j n) (trackFine d (getD l j nothing)) (trackUnused d (getD l j nothing)) && tracksFine d (n - (j + 1)) (drop (j + 1) l))
+one-place d n j l inside = byCase (ltb j n) among after
   where
     rest : Bool → Bool
-    rest b = cond b (trackFine (getD l j nothing)) (trackUnused (getD l j nothing)) && tracksFine (n - (j + 1)) (drop (j + 1) l)
+    rest b = cond b (trackFine d (getD l j nothing)) (trackUnused d (getD l j nothing)) && tracksFine d (n - (j + 1)) (drop (j + 1) l)
 
-    among : ltb j n ≡ true → tracksFine (n - j) (drop j l) ≡ rest (ltb j n)
+    among : ltb j n ≡ true → tracksFine d (n - j) (drop j l) ≡ rest (ltb j n)
     among q =
         let e : n - j ≡ suc (n - (j + 1)) = omega (arith, ltb-true j n q) in
-        ap₂ tracksFine e (from-place j l nothing inside) ∙ ap rest (sym q)
+        ap₂ (tracksFine d) e (from-place j l nothing inside) ∙ ap rest (sym q)
 
-    after : ltb j n ≡ false → tracksFine (n - j) (drop j l) ≡ rest (ltb j n)
+    after : ltb j n ≡ false → tracksFine d (n - j) (drop j l) ≡ rest (ltb j n)
     after q =
         let e : n - j ≡ 0 = omega (arith, ltb-false j n q) in
         let k : 0 ≡ n - (j + 1) = omega (arith, ltb-false j n q) in
-        ap₂ tracksFine e (from-place j l nothing inside)
-        ∙ ap (λ (m : ℕ). trackUnused (getD l j nothing) && tracksFine m (drop (j + 1) l)) k
+        ap₂ (tracksFine d) e (from-place j l nothing inside)
+        ∙ ap (λ (m : ℕ). trackUnused d (getD l j nothing) && tracksFine d m (drop (j + 1) l)) k
         ∙ ap rest (sym q)
 
 -- past the last of them: were there n?
-pub at-end : (n j : ℕ) (l : List Track) → length l ≤ j → tracksFine (n - j) (drop j l) ≡ leb n j
-at-end n j l h =
+pub at-end : (d n j : ℕ) (l : List Track) → length l ≤ j → tracksFine d (n - j) (drop j l) ≡ leb n j
+at-end d n j l h =
     byCase (leb n j)
-    (λ q. let e : n - j ≡ 0 = omega (arith, leb-true n j q) in ap₂ tracksFine e (drop-of-length-le l h) ∙ sym q)
-    (λ q. let e : n - j ≡ suc (n - (j + 1)) = omega (arith, leb-false n j q) in ap₂ tracksFine e (drop-of-length-le l h) ∙ sym q)
+    (λ q. let e : n - j ≡ 0 = omega (arith, leb-true n j q) in ap₂ (tracksFine d) e (drop-of-length-le l h) ∙ sym q)
+    (λ q. let e : n - j ≡ suc (n - (j + 1)) = omega (arith, leb-false n j q) in ap₂ (tracksFine d) e (drop-of-length-le l h) ∙ sym q)
 
--- ---- the levels of a track: all in the range, since 0 is, and those beyond the count 0
-
--- one level more
-pub every-place : (f : ℤ → Bool) (j : ℕ) (l : List ℤ) → j < length l → every f (drop j l) ≡ (f (getD l j (pos 0)) && every f (drop (j + 1) l))
-every-place f j l inside = ap (every f) (from-place j l (pos 0) inside)
-
--- past the last of them
-pub every-past : (f : ℤ → Bool) (j : ℕ) (l : List ℤ) → length l ≤ j → every f (drop j l) ≡ true
-every-past f j l h = ap (every f) (drop-of-length-le l h)
-
--- the code asks of a level whether its bits are 0
-pub bits-zero : (x : ℤ) → SFits w32 x → eqb (ofZ w32 x) 0 ≡ isZero x
-bits-zero (pos n) f = refl
-bits-zero (negsuc n) f = let h : ofZ w32 (negsuc n) ≡ 0 → ⊥ = λ e. omega (arith, f .sfits) in ne-eqb (ofZ w32 (negsuc n)) 0 h
+-- ---- the levels of a track: in the range, which 0 is too, and those beyond the count 0
 
 zero-ranged : (x : ℤ) → isZero x ≡ true → levelInRange x ≡ true
 zero-ranged (pos n) e = ap (λ (k : ℕ). levelInRange (pos k)) (eqb-true n 0 e)
 zero-ranged (negsuc n) e = clash e refl
 
-levels-apart : (n : ℕ) (l : List ℤ) → n ≤ length l → levelsFine n l ≡ (every levelInRange l && every isZero (drop n l))
-levels-apart zero [] h = refl
-levels-apart (suc n) [] h = absurd (omega arith)
-levels-apart zero (x ∷ xs) h = ap (λ (b : Bool). isZero x && b) (levels-apart zero xs (omega arith)) ∙ byCase (isZero x) is-zero is-not
+-- the code asks of a level whether its bits are 0
+pub bits-zero : (x : ℤ) → SFits w16 x → eqb (ofZ w16 x) 0 ≡ isZero x
+bits-zero (pos n) f = refl
+bits-zero (negsuc n) f = let h : ofZ w16 (negsuc n) ≡ 0 → ⊥ = λ e. omega (arith, f .sfits) in ne-eqb (ofZ w16 (negsuc n)) 0 h
+
+-- one level more: n levels are used, and this is the one at place j
+pub one-level : (n j : ℕ) (l : List ℤ) → j < length l
+    → levelsFine (n - j) (drop j l)
+    ≡ ((levelInRange (getD l j (pos 0)) && (ltb j n || isZero (getD l j (pos 0)))) && levelsFine (n - (j + 1)) (drop (j + 1) l))
+one-level n j l inside = byCase (ltb j n) among after
   where
-    rest : Bool
-    rest = every levelInRange xs && every isZero (drop 0 xs)
+    x : ℤ
+    x = getD l j (pos 0)
 
-    is-zero : isZero x ≡ true → (isZero x && rest) ≡ ((levelInRange x && every levelInRange xs) && (isZero x && every isZero xs))
-    is-zero e = rw (e, zero-ranged x e) refl
+    rest : Bool → Bool
+    rest b = (levelInRange x && (b || isZero x)) && levelsFine (n - (j + 1)) (drop (j + 1) l)
 
-    is-not : isZero x ≡ false → (isZero x && rest) ≡ ((levelInRange x && every levelInRange xs) && (isZero x && every isZero xs))
-    is-not e = rw e (sym (and-false (levelInRange x && every levelInRange xs)))
-levels-apart (suc n) (x ∷ xs) h =
-    ap (λ (b : Bool). levelInRange x && b) (levels-apart n xs (omega arith))
-    ∙ sym (and-assoc (levelInRange x) (every levelInRange xs) (every isZero (drop n xs)))
+    among : ltb j n ≡ true → levelsFine (n - j) (drop j l) ≡ rest (ltb j n)
+    among q =
+        let e : n - j ≡ suc (n - (j + 1)) = omega (arith, ltb-true j n q) in
+        ap₂ levelsFine e (from-place j l (pos 0) inside)
+        ∙ ap (λ (b : Bool). b && levelsFine (n - (j + 1)) (drop (j + 1) l)) (sym (and-true (levelInRange x)))
+        ∙ ap rest (sym q)
 
-levels-lacking : (n : ℕ) (l : List ℤ) → length l < n → levelsFine n l ≡ false
+    -- a level that is 0 lies in the range
+    both : isZero x ≡ (levelInRange x && isZero x)
+    both = byCase (isZero x) (λ z. z ∙ sym (and-both (zero-ranged x z) z))
+        (λ z. z ∙ sym (ap (λ (b : Bool). levelInRange x && b) z ∙ and-false (levelInRange x)))
+
+    after : ltb j n ≡ false → levelsFine (n - j) (drop j l) ≡ rest (ltb j n)
+    after q =
+        let e : n - j ≡ 0 = omega (arith, ltb-false j n q) in
+        let k : 0 ≡ n - (j + 1) = omega (arith, ltb-false j n q) in
+        ap₂ levelsFine e (from-place j l (pos 0) inside)
+        ∙ ap₂ (λ (b : Bool) (m : ℕ). b && levelsFine m (drop (j + 1) l)) both k
+        ∙ ap rest (sym q)
+
+-- past the last of them, where there is room for all that are used
+pub levels-past : (n j : ℕ) (l : List ℤ) → length l ≤ j → n ≤ j → levelsFine (n - j) (drop j l) ≡ true
+levels-past n j l h g = let e : n - j ≡ 0 = omega arith in ap₂ levelsFine e (drop-of-length-le l h)
+
+pub levels-lacking : (n : ℕ) (l : List ℤ) → length l < n → levelsFine n l ≡ false
 levels-lacking zero l h = absurd (omega arith)
 levels-lacking (suc n) [] h = refl
 levels-lacking (suc n) (x ∷ xs) h = ap (λ (b : Bool). levelInRange x && b) (levels-lacking n xs (omega arith)) ∙ and-false (levelInRange x)
-
-pub levels-tests : (n : ℕ) (l : List ℤ) → levelsFine n l ≡ ((leb n (length l) && every levelInRange l) && every isZero (drop n l))
-levels-tests n l =
-    byCase (leb n (length l))
-    (λ q. levels-apart n l (leb-true n (length l) q) ∙ sym (ap tests q))
-    (λ q. levels-lacking n l (leb-false n (length l) q) ∙ sym (ap tests q))
-  where
-    tests : Bool → Bool
-    tests b = (b && every levelInRange l) && every isZero (drop n l)
-
--- whether those are 0 that stand neither before place n nor before place j
-abbrev pub zerosFrom : ℕ → ℕ → List ℤ → Bool
-zerosFrom n j l = every isZero (drop (j + (n - j)) l)
-
-module _ (n j : ℕ) (l : List ℤ) (inside : j < length l) where
-  zeros-before : j < n → zerosFrom n j l ≡ zerosFrom n (j + 1) l
-  zeros-before h = let e : j + (n - j) ≡ (j + 1) + (n - (j + 1)) = omega arith in ap (λ (k : ℕ). every isZero (drop k l)) e
-
-  zeros-after : n ≤ j → zerosFrom n j l ≡ (isZero (getD l j (pos 0)) && zerosFrom n (j + 1) l)
-  zeros-after h =
-      let e : j + (n - j) ≡ j = omega arith in
-      let k : j + 1 ≡ (j + 1) + (n - (j + 1)) = omega arith in
-      ap (λ (i : ℕ). every isZero (drop i l)) e
-      ∙ every-place isZero j l inside
-      ∙ ap (λ (i : ℕ). isZero (getD l j (pos 0)) && every isZero (drop i l)) k
-
-  -- a level that is 0, and one that is not
-  pub zero-there : isZero (getD l j (pos 0)) ≡ true → zerosFrom n j l ≡ zerosFrom n (j + 1) l
-  zero-there e =
-      byCase (ltb j n)
-      (λ q. zeros-before (ltb-true j n q))
-      (λ q. zeros-after (ltb-false j n q) ∙ ap (λ (b : Bool). b && zerosFrom n (j + 1) l) e)
-
-  pub used-there : (u : ℕ) → u ≤ j → isZero (getD l j (pos 0)) ≡ false → (leb u n && zerosFrom n j l) ≡ (leb (j + 1) n && zerosFrom n (j + 1) l)
-  used-there u h e =
-      byCase (ltb j n)
-      (λ q.
-      let b : j < n = ltb-true j n q in
-      ap₂ _&&_ (le-leb u n (omega arith) ∙ sym (le-leb (j + 1) n (omega arith))) (zeros-before b))
-      (λ q.
-      let b : n ≤ j = ltb-false j n q in
-      ap (λ (y : Bool). leb u n && y) (zeros-after b ∙ ap (λ (y : Bool). y && zerosFrom n (j + 1) l) e)
-      ∙ and-false (leb u n)
-      ∙ sym (ap (λ (y : Bool). y && zerosFrom n (j + 1) l) (lt-leb (j + 1) n (omega arith))))
 
 -- ---- channels that differ
 pub channels-rows : (ts : List Track) → channels (map rowOf ts) ≡ channelsOf ts

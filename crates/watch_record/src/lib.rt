@@ -4,14 +4,13 @@ ghost use mathlib.Core.Path.{_≡_};
 ghost use mathlib.Core.Bool.{cond};
 ghost use mathlib.Core.List.{[]};
 ghost use Prim.Native.Nat.{_≤_};
-ghost use lib.ListN.{take, drop};
+ghost use lib.ListN.{take};
 ghost use Rattle.refusal.specs.Told.{refusedFor};
-ghost use Rattle.readings_rules.specs.Ranges.{levelInRange};
-ghost use Rattle.watch_rules.specs.Lists.{every, distinct};
-ghost use Rattle.watch_rules.specs.Limits.{room};
+ghost use Rattle.watch_rules.specs.Lists.{distinct};
+ghost use Rattle.watch_rules.specs.Limits.{depthInRange, room};
 ghost use Rattle.watch_rules.specs.Told.{told, toldHanded};
 ghost use Rattle.watch_rules.specs.Rows.{row};
-ghost use Rattle.watch_rules.specs.Record.{fresh as freshWatch, trackOf, isZero, levelsFine, trackFine, trackUnused, tracksFine, wellFormed, tested};
+ghost use Rattle.watch_rules.specs.Record.{fresh as freshWatch, trackOf, levelsFine, trackFine, trackUnused, tracksFine, depthFine, wellFormed, tested};
 ghost use Rattle.watch_record.specs.Code.{back, placeOf, channelsOf};
 use readings_rules::CHANNEL_HIGHEST;
 use readings_rules::LEVEL_HIGHEST;
@@ -19,7 +18,8 @@ use readings_rules::LEVEL_LOWEST;
 use refusal::Refusal;
 use watch_rules::Answer;
 use watch_rules::CAPACITY;
-use watch_rules::DEPTH;
+use watch_rules::DEPTH_HIGHEST;
+use watch_rules::DEPTH_LOWEST;
 use watch_rules::Handed;
 use watch_rules::ROOM;
 use watch_rules::Track;
@@ -34,6 +34,7 @@ pub fn fresh() -> Watch
     Watch {
         watched: 0,
         tracks: tracks,
+        depth: 0,
     }
 }
 
@@ -41,7 +42,7 @@ pub fn fresh() -> Watch
 pub fn empty(channel: u16) -> Track
     ensures { λ r. ⌜ r ≡ trackOf (row channel []) ⌝ }
 {
-    let none = [0i32; CAPACITY];
+    let none = [0i16; CAPACITY];
     Track {
         channel: channel,
         count: 0,
@@ -64,66 +65,48 @@ pub fn refused(w: Watch, why: Refusal) -> Handed
     answered(w, Answer::Refused(why))
 }
 
-// All levels lie in the range. None leaves early, so that the compiled loop takes several at a time.
-fn in_range(levels: [i32; CAPACITY]) -> bool
-    ensures { λ r. ⌜ r ≡ every levelInRange levels ⌝ }
-{
-    let mut ok = true;
-    let mut j = 0;
-    while j < CAPACITY {
-        let x = levels[j];
-        ok = ok & ((LEVEL_LOWEST <= x) & (x <= LEVEL_HIGHEST));
-        j += 1;
-    }
-    ok
-}
-
-// The levels from place n on are 0: the last that is not 0 stands before it.
-fn zero_from(levels: [i32; CAPACITY], n: usize) -> bool
-    ensures { λ r. ⌜ r ≡ every isZero (drop n levels) ⌝ }
-{
-    let mut used = 0;
-    let mut j = 0;
-    while j < CAPACITY {
-        let x = levels[j];
-        if x != 0 {
-            used = j + 1;
-        }
-        j += 1;
-    }
-    used <= n
-}
-
-// A track's levels lie in the range as far as its count, and are 0, which lies in it too, beyond it.
+// A track's levels lie in the range as far as its count, and are 0 beyond it. None leaves early, and places are counted in 16 bits too, so that
+// the compiled loop takes several at a time.
 fn levels_ok(t: Track) -> bool
     ensures { λ r. ⌜ r ≡ levelsFine (t .count) (t .levels) ⌝ }
 {
     let n = t.count;
     let levels = t.levels;
-    let ok = (n <= CAPACITY) & in_range(levels);
-    // Most tracks are full.
-    if n == CAPACITY {
-        return ok;
+    if n > CAPACITY {
+        return false;
     }
-    ok & zero_from(levels, n)
+    let count = n as u16;
+    let mut ok = true;
+    let mut place: u16 = 0;
+    let mut j = 0;
+    while j < CAPACITY {
+        let x = levels[j];
+        let level = x as i32;
+        ok = ok
+            & ((LEVEL_LOWEST <= level) & (level <= LEVEL_HIGHEST))
+            & ((place < count) | (x == 0));
+        place += 1;
+        j += 1;
+    }
+    ok
 }
 
 // A track that is used is fine; one that is not is all zero.
-fn track_ok(t: Track, used: bool) -> bool
-    ensures { λ r. ⌜ r ≡ cond used (trackFine t) (trackUnused t) ⌝ }
+fn track_ok(t: Track, used: bool, depth: usize) -> bool
+    ensures { λ r. ⌜ r ≡ cond used (trackFine depth t) (trackUnused depth t) ⌝ }
 {
     let zero = (t.channel == 0) & (t.count == 0);
-    (used | zero) & (t.channel <= CHANNEL_HIGHEST) & (t.count <= DEPTH) & levels_ok(t)
+    (used | zero) & (t.channel <= CHANNEL_HIGHEST) & (t.count <= depth) & levels_ok(t)
 }
 
 // The first n tracks are fine, and the others unused.
-fn tracks_ok(tracks: [Track; ROOM], n: usize) -> bool
-    ensures { λ r. ⌜ r ≡ tracksFine n tracks ⌝ }
+fn tracks_ok(tracks: [Track; ROOM], n: usize, depth: usize) -> bool
+    ensures { λ r. ⌜ r ≡ tracksFine depth n tracks ⌝ }
 {
     let mut i = 0;
     while i < ROOM {
         let t = tracks[i];
-        if !track_ok(t, i < n) {
+        if !track_ok(t, i < n, depth) {
             return false;
         }
         i += 1;
@@ -165,12 +148,33 @@ fn apart(tracks: [Track; ROOM], n: usize) -> bool
     true
 }
 
+// A depth lies in its range.
+pub fn depth_in_range(depth: usize) -> bool
+    ensures { λ r. ⌜ r ≡ depthInRange depth ⌝ }
+{
+    (DEPTH_LOWEST <= depth) & (depth <= DEPTH_HIGHEST)
+}
+
+// A depth is in its range where n tracks are in use, and 0 where none is.
+fn depth_ok(n: usize, depth: usize) -> bool
+    ensures { λ r. ⌜ r ≡ depthFine n depth ⌝ }
+{
+    if n == 0 {
+        return depth == 0;
+    }
+    depth_in_range(depth)
+}
+
 pub fn well_formed(w: Watch) -> bool
     ensures { λ r. ⌜ r ≡ wellFormed w ⌝ }
 {
     let n = w.watched;
     let tracks = w.tracks;
-    if !tracks_ok(tracks, n) {
+    let depth = w.depth;
+    if !depth_ok(n, depth) {
+        return false;
+    }
+    if !tracks_ok(tracks, n, depth) {
         return false;
     }
     apart(tracks, n)

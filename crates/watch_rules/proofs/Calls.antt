@@ -2,7 +2,7 @@
 -- definition with its tests decided.
 use Prim.Native.Nat.{ℕ, zero, suc, _≤_, _<_}
 use mathlib.Core.Path.{_≡_, refl, ap, _∙_}
-use mathlib.Core.Bool.{Bool, true, false, cond}
+use mathlib.Core.Bool.{Bool, true, false, cond, _&&_}
 use mathlib.Core.List.{List, [], _∷_}
 use mathlib.Core.Option.{Option, none, some, Option·some-ne-none}
 use native.Mathlib.Omega.{arith}
@@ -19,8 +19,8 @@ use Rattle.watch_rules.specs.Lists.{mem}
 use Rattle.watch_rules.specs.Limits.{room}
 use Rattle.watch_rules.specs.Told.{Call, Called, Given, accepted, told, toldHanded}
 use Rattle.watch_rules.specs.Rules.{View, watched, refusal, refuseUnless, answer, granted, orRefused, unlessRefused}
-use Rattle.watch_rules.specs.Rows.{Row, channels, shown, changedRows}
-use Rattle.watch_rules.specs.Record.{rows, recordOf, tracksFine, trackFine, wellFormed, handed, returned, called, tested}
+use Rattle.watch_rules.specs.Rows.{Row, channels, shown}
+use Rattle.watch_rules.specs.Record.{rows, viewOf, recordOf, changedRecord, tracksFine, trackFine, depthFine, wellFormed, handed, returned, called, tested}
 use Rattle.watch_rules.proofs.Laws.{clash, and-left, and-right}
 use Rattle.watch_rules.proofs.Good.{Good}
 use Rattle.watch_rules.proofs.Encode.{tracks-read, rows-record, well-formed-record}
@@ -38,17 +38,17 @@ unfolding called
 called-unformed w k e = ap (λ (b : Bool). cond b (handed w (rows w) k) (returned w)) e
 
 module _ (w : Watch) (k : Call) (formed : wellFormed w ≡ true) where
-  called-formed : (o : Option Refusal) → refusal (shown (rows w)) k ≡ o
-      → called w k ≡ handing (unlessRefused o w (recordOf (changedRows (rows w) k))) (orRefused o (granted (shown (rows w)) k))
+  called-formed : (o : Option Refusal) → refusal (viewOf w) k ≡ o
+      → called w k ≡ handing (unlessRefused o w (changedRecord (w .depth) (rows w) k)) (orRefused o (granted (viewOf w) k))
   unfolding called answer
   called-formed o e =
       ap (λ (b : Bool). cond b (handed w (rows w) k) (returned w)) formed
-      ∙ ap (λ (o : Option Refusal). handing (unlessRefused o w (recordOf (changedRows (rows w) k))) (orRefused o (granted (shown (rows w)) k))) e
+      ∙ ap (λ (o : Option Refusal). handing (unlessRefused o w (changedRecord (w .depth) (rows w) k)) (orRefused o (granted (viewOf w) k))) e
 
-  pub called-refused : (r : Refusal) → refusal (shown (rows w)) k ≡ some r → called w k ≡ handing w (refusedFor r)
+  pub called-refused : (r : Refusal) → refusal (viewOf w) k ≡ some r → called w k ≡ handing w (refusedFor r)
   called-refused r e = called-formed (some r) e
 
-  pub called-granted : refusal (shown (rows w)) k ≡ none → called w k ≡ handing (recordOf (changedRows (rows w) k)) (gives (granted (shown (rows w)) k))
+  pub called-granted : refusal (viewOf w) k ≡ none → called w k ≡ handing (changedRecord (w .depth) (rows w) k) (gives (granted (viewOf w) k))
   called-granted e = called-formed none e
 
 -- the test of well-formedness
@@ -61,11 +61,11 @@ unfolding tested
 tested-unformed w e = ap (λ (b : Bool). cond b (handing w (gives accepted)) (returned w)) e
 
 -- on the record of good rows
-pub called-record : (rs : List Row) (k : Call) → Good rs → called (recordOf rs) k ≡ handed (recordOf rs) rs k
+pub called-record : (d : ℕ) (rs : List Row) (k : Call) → Good d rs → called (recordOf d rs) k ≡ handed (recordOf d rs) rs k
 unfolding called
-called-record rs k g =
-    ap (λ (b : Bool). cond b (handed (recordOf rs) (rows (recordOf rs)) k) (returned (recordOf rs))) (well-formed-record rs g)
-    ∙ ap (λ (q : List Row). handed (recordOf rs) q k) (rows-record rs)
+called-record d rs k g =
+    ap (λ (b : Bool). cond b (handed (recordOf d rs) (rows (recordOf d rs)) k) (returned (recordOf d rs))) (well-formed-record d rs g)
+    ∙ ap (λ (q : List Row). handed (recordOf d rs) q k) (rows-record d rs)
 
 -- ---- the chain of refusals: a test that fails refuses, one that holds goes on to the next
 
@@ -96,24 +96,31 @@ refused-answer v k r e = ap (λ (o : Option Refusal). orRefused o (granted v k))
 
 -- ---- what a well-formed record is
 
-pub formed-tracks : (w : Watch) → wellFormed w ≡ true → tracksFine (w .watched) (w .tracks) ≡ true
+pub formed-tracks : (w : Watch) → wellFormed w ≡ true → tracksFine (w .depth) (w .watched) (w .tracks) ≡ true
 unfolding wellFormed
-formed-tracks w e = and-left (tracksFine (w .watched) (w .tracks)) _ (and-right (eqb (length (w .tracks)) room) _ e)
+formed-tracks w e =
+    and-left (tracksFine (w .depth) (w .watched) (w .tracks)) _ (and-right (eqb (length (w .tracks)) room && depthFine (w .watched) (w .depth)) _ e)
 
 pub formed-long : (w : Watch) → wellFormed w ≡ true → length (w .tracks) ≡ room
 unfolding wellFormed
-formed-long w e = eqb-true (length (w .tracks)) room (and-left (eqb (length (w .tracks)) room) _ e)
+formed-long w e = eqb-true (length (w .tracks)) room
+    (and-left (eqb (length (w .tracks)) room) _ (and-left (eqb (length (w .tracks)) room && depthFine (w .watched) (w .depth)) _ e))
+
+pub formed-depth : (w : Watch) → wellFormed w ≡ true → depthFine (w .watched) (w .depth) ≡ true
+unfolding wellFormed
+formed-depth w e =
+    and-right (eqb (length (w .tracks)) room) _ (and-left (eqb (length (w .tracks)) room && depthFine (w .watched) (w .depth)) _ e)
 
 pub formed-short : (w : Watch) → wellFormed w ≡ true → w .watched ≤ room
-formed-short w e = omega (arith, formed-long w e, tracks-read (w .watched) (w .tracks) (formed-tracks w e) .within)
+formed-short w e = omega (arith, formed-long w e, tracks-read (w .depth) (w .watched) (w .tracks) (formed-tracks w e) .within)
 
-pub fine-at : (n i : ℕ) (ts : List Track) (d : Track) → tracksFine n ts ≡ true → i < n → trackFine (getD ts i d) ≡ true
-fine-at zero i ts d e h = absurd (omega arith)
-fine-at (suc n) i [] d e h = clash e refl
-fine-at (suc n) zero (t ∷ ts) d e h = and-left (trackFine t) (tracksFine n ts) e
-fine-at (suc n) (suc i) (t ∷ ts) d e h = fine-at n i ts d (and-right (trackFine t) (tracksFine n ts) e) (omega arith)
+pub fine-at : (depth n i : ℕ) (ts : List Track) (d : Track) → tracksFine depth n ts ≡ true → i < n → trackFine depth (getD ts i d) ≡ true
+fine-at depth zero i ts d e h = absurd (omega arith)
+fine-at depth (suc n) i [] d e h = clash e refl
+fine-at depth (suc n) zero (t ∷ ts) d e h = and-left (trackFine depth t) (tracksFine depth n ts) e
+fine-at depth (suc n) (suc i) (t ∷ ts) d e h = fine-at depth n i ts d (and-right (trackFine depth t) (tracksFine depth n ts) e) (omega arith)
 
 -- the channels under watch are those that have a row
-pub first-watched : (rs : List Row) (c : ℕ) → watched (shown rs) c ≡ mem c (channels rs)
-first-watched [] c = refl
-first-watched (r ∷ rs) c = refl
+pub first-watched : (d : ℕ) (rs : List Row) (c : ℕ) → watched (shown d rs) c ≡ mem c (channels rs)
+first-watched d [] c = refl
+first-watched d (r ∷ rs) c = refl

@@ -9,17 +9,18 @@ use lib.Dec.{eqb}
 use lib.ListN.{length, take, length-map}
 use Rattle.refusal.specs.declared.Refusal.{Refusal}
 use Rattle.refusal.specs.declared.Refusal.the-variants as why
-use Rattle.refusal.specs.Told.{Told}
+use Rattle.refusal.specs.Told.{Told, refused, gives}
+use Rattle.readings_rules.specs.Burst.{BurstResult, heard, missed, burstOf}
 use Rattle.watch_rules.specs.declared.Watch.{Watch}
-use Rattle.watch_rules.specs.Lists.{is, padTo}
-use Rattle.watch_rules.specs.Limits.{depth, room}
-use Rattle.watch_rules.specs.Told.{Call, ask, verdict, Called, Given, accepted}
+use Rattle.watch_rules.specs.Lists.{mem, is, padTo}
+use Rattle.watch_rules.specs.Limits.{room}
+use Rattle.watch_rules.specs.Told.{Call, start, newList, move, file, ask, verdict, Called, Given, accepted}
 use Rattle.watch_rules.specs.Rules.{View, watched, serves, refusal, refuseUnless, answer, orRefused, unlessRefused, full, counts, target}
-use Rattle.watch_rules.specs.Plain.{Plain, idle, underWatch, seen, change, next, answers, after}
-use Rattle.watch_rules.specs.Rows.{Row, levelsOf, shown, changedRows}
-use Rattle.watch_rules.specs.Record.{rows, trackOf, unused, recordOf, fresh, called, answersFrom, afterFrom}
+use Rattle.watch_rules.specs.Plain.{Plain, idle, underWatch, seen, afterFile, change, next, answers, after}
+use Rattle.watch_rules.specs.Rows.{Row, channels, levelsOf, first, rest, shown, changedRows, changedDepth}
+use Rattle.watch_rules.specs.Record.{rows, viewOf, trackOf, unused, recordOf, changedRecord, fresh, called, answersFrom, afterFrom}
 use Rattle.watch_rules.specs.Claims.{meanTold, movesTo, Compared, countOf, ofRecord, ofPlain, Alike, ButForOrder, same, lists, AllButForOrder, end, more, AsPlain, PlaceFree, Demand3}
-use Rattle.watch_rules.proofs.Laws.{byCase, take-padTo, last-none, view-path, levels-none}
+use Rattle.watch_rules.proofs.Laws.{byCase, clash, take-padTo, view-path, levels-none}
 use Rattle.watch_rules.proofs.Encode.{rows-record}
 use Rattle.watch_rules.proofs.Calls.{called-record, first-watched}
 use Rattle.watch_rules.proofs.Steps.{Step, step}
@@ -28,38 +29,52 @@ use Rattle.watch_rules.proofs.Answers.{mean-told, moved-told}
 
 -- ---- in step through every call
 
--- the record is that of rows that keep in step with the plain watch
+-- the record is that of rows that keep in step with the plain watch, at its depth
 pub record Linked (w : Watch) (p : Plain) : Type 0 where
   pub held : List Row
-  pub made : w ≡ recordOf held
+  pub made : w ≡ recordOf (p .depth) held
   pub kept : Step held p
 
+-- a call does to the depth of the record what it does to that of the plain watch
+depth-filed : (p : Plain) (c : ℕ) (t : Told BurstResult) → p .depth ≡ afterFile p c t .depth
+depth-filed p c (gives (heard x q)) = refl
+depth-filed p c (gives missed) = refl
+depth-filed p c (refused n) = refl
+
+pub depth-changed : (p : Plain) (k : Call) → changedDepth (p .depth) k ≡ change p k .depth
+depth-changed p (start c d) = refl
+depth-changed p (newList l) = refl
+depth-changed p (move c) = refl
+depth-changed p (file c b) = depth-filed p c (burstOf b)
+depth-changed p (ask c) = refl
+depth-changed p (verdict h) = refl
+
 module _ (rs : List Row) (p : Plain) (k : Call) (s : Step rs p) where
-  answered-step : called (recordOf rs) k .answer ≡ answer (seen p) k
-  answered-step = ap (λ (o : Called). o .answer) (called-record rs k (s .good)) ∙ ap (λ (v : View). answer v k) (s .same)
+  abbrev old : Watch
+  old = recordOf (p .depth) rs
 
-  linked-step : Linked (called (recordOf rs) k .watch) (next p k)
-  linked-step = go (refusal (shown rs) k) refl
+  answered-step : called old k .answer ≡ answer (seen p) k
+  answered-step = ap (λ (o : Called). o .answer) (called-record (p .depth) rs k (s .good)) ∙ ap (λ (v : View). answer v k) (s .same)
+
+  linked-step : Linked (called old k .watch) (next p k)
+  linked-step = subst (λ (o : Option Refusal). Linked (called old k .watch) (unlessRefused o p (change p k))) also (go (refusal (shown (p .depth) rs) k) refl)
     where
-      at : called (recordOf rs) k .watch ≡ unlessRefused (refusal (shown rs) k) (recordOf rs) (recordOf (changedRows rs k))
-      at = ap (λ (o : Called). o .watch) (called-record rs k (s .good))
+      at : {o : Option Refusal} → refusal (shown (p .depth) rs) k ≡ o → called old k .watch ≡ unlessRefused o old (changedRecord (p .depth) rs k)
+      at e =
+          ap (λ (o : Called). o .watch) (called-record (p .depth) rs k (s .good))
+          ∙ ap (λ (o : Option Refusal). unlessRefused o old (changedRecord (p .depth) rs k)) e
 
-      also : refusal (seen p) k ≡ refusal (shown rs) k
-      also = ap (λ (v : View). refusal v k) (sym (s .same))
+      also : refusal (shown (p .depth) rs) k ≡ refusal (seen p) k
+      also = ap (λ (v : View). refusal v k) (s .same)
 
-      go : (o : Option Refusal) → refusal (shown rs) k ≡ o → Linked (called (recordOf rs) k .watch) (next p k)
+      go : (o : Option Refusal) → refusal (shown (p .depth) rs) k ≡ o → Linked (called old k .watch) (unlessRefused o p (change p k))
       go none e =
           record {
-            held = changedRows rs k;
-            made = at ∙ ap (λ (o : Option Refusal). unlessRefused o (recordOf rs) (recordOf (changedRows rs k))) e;
-            kept = subst (λ (o : Option Refusal). Step (changedRows rs k) (unlessRefused o p (change p k))) (sym (also ∙ e)) (step rs p k s e);
+            held = changedRows (p .depth) rs k;
+            made = at e ∙ ap (λ (n : ℕ). recordOf n (changedRows (p .depth) rs k)) (depth-changed p k);
+            kept = step rs p k s e;
           }
-      go (some r) e =
-          record {
-            held = rs;
-            made = at ∙ ap (λ (o : Option Refusal). unlessRefused o (recordOf rs) (recordOf (changedRows rs k))) e;
-            kept = subst (λ (o : Option Refusal). Step rs (unlessRefused o p (change p k))) (sym (also ∙ e)) s;
-          }
+      go (some r) e = record { held = rs; made = at e; kept = s }
 
 linked-next : {w : Watch} {p : Plain} (k : Call) → Linked w p → Linked (called w k .watch) (next p k)
 linked-next {p = p} k l = subst (λ (x : Watch). Linked (called x k .watch) (next p k)) (sym (l .made)) (linked-step (l .held) p k (l .kept))
@@ -83,7 +98,7 @@ linked-fresh =
     record {
       held = [];
       made = refl;
-      kept = record { good = record { short = refl; apart = refl; fine = refl }; same = view-path refl (λ c. refl) (λ c. sym (last-none depth)) };
+      kept = record { good = record { depth = refl; short = refl; apart = refl; fine = refl }; same = view-path refl refl (λ c. refl) (λ c. refl) };
     }
 
 pub linked : (ks : List Call) → Linked (afterFrom fresh ks) (after idle ks)
@@ -95,15 +110,15 @@ answered-next ks k = answered-linked k (linked ks)
 
 -- ---- alike
 
-pub shows : {w : Watch} {p : Plain} → Linked w p → shown (rows w) ≡ seen p
-shows l = ap (λ (x : Watch). shown (rows x)) (l .made) ∙ ap shown (rows-record (l .held)) ∙ l .kept .same
+pub shows : {w : Watch} {p : Plain} → Linked w p → viewOf w ≡ seen p
+shows {p = p} l = ap (λ (x : Watch). viewOf x) (l .made) ∙ ap (shown (p .depth)) (rows-record (p .depth) (l .held)) ∙ l .kept .same
 
 count-tracks : (c : ℕ) (rs : List Row) → countOf c (map trackOf rs) ≡ length (levelsOf c rs)
 count-tracks c [] = refl
 count-tracks c (r ∷ rs) = byCase (eqb (r .channel) c) (λ q. rw q) (λ q. rw q (count-tracks c rs))
 
-pub count-record : (c : ℕ) (rs : List Row) → countOf c (take (recordOf rs .watched) (recordOf rs .tracks)) ≡ length (levelsOf c rs)
-count-record c rs =
+pub count-record : (d c : ℕ) (rs : List Row) → countOf c (take (recordOf d rs .watched) (recordOf d rs .tracks)) ≡ length (levelsOf c rs)
+count-record d c rs =
     ap (λ (n : ℕ). countOf c (take n (padTo room unused (map trackOf rs)))) (sym (length-map rs trackOf))
     ∙ ap (countOf c) (take-padTo room unused (map trackOf rs))
     ∙ count-tracks c rs
@@ -112,25 +127,34 @@ count-record c rs =
 unwatched-bare : (rs : List Row) (p : Plain) (c : ℕ) → Step rs p → watched (seen p) c ≡ false → seen p .levels c ≡ []
 unwatched-bare rs p c s e =
     sym (ap (λ (v : View). v .levels c) (s .same))
-    ∙ levels-none c rs (sym (first-watched rs c) ∙ ap (λ (v : View). watched v c) (s .same) ∙ e)
+    ∙ levels-none c rs (sym (first-watched (p .depth) rs c) ∙ ap (λ (v : View). watched v c) (s .same) ∙ e)
+
+-- and where none serves, there is no neighbour
+rows-alone : (rs : List Row) → serves (first rs) ≡ false → (c : ℕ) → mem c (channels (rest rs)) ≡ false
+rows-alone [] e c = refl
+rows-alone (r ∷ rs) e c = clash refl e
+
+alone : (rs : List Row) (p : Plain) → Step rs p → serves (p .serving) ≡ false → (c : ℕ) → p .neighbour c ≡ false
+alone rs p s = subst (λ (v : View). serves (v .serving) ≡ false → (c : ℕ) → v .neighbour c ≡ false) (s .same) (rows-alone rs)
 
 alike-linked : {w : Watch} {p : Plain} → Linked w p → Alike (ofRecord w) (ofPlain p)
 alike-linked {w} {p} l =
     record {
+      depth = ap (λ (v : View). v .depth) (shows l);
       serving = ap (λ (v : View). v .serving) (shows l);
       neighbour = λ c. ap (λ (v : View). v .neighbour c) (shows l);
       levels = λ c. ap (λ (v : View). v .levels c) (shows l);
       count =
           λ c.
           ap (λ (x : Watch). countOf c (take (x .watched) (x .tracks))) (l .made)
-          ∙ count-record c (l .held)
+          ∙ count-record (p .depth) c (l .held)
           ∙ ap (λ (v : View). length (v .levels c)) (l .kept .same);
       mean = λ c. ap meanTold (answered-linked (ask c) l) ∙ mean-told (seen p) c (unwatched-bare (l .held) p c (l .kept));
       part =
           λ h low high c.
           let m : movesTo (called w (verdict h) .answer) c ≡ is (target (seen p) h) c =
-          ap (λ (a : Told Given). movesTo a c) (answered-linked (verdict h) l) ∙ moved-told (seen p) h c low high in
-          λ i. record { full = full (shows l i .levels c); counts = counts (shows l i) h c; movedTo = m i };
+          ap (λ (a : Told Given). movesTo a c) (answered-linked (verdict h) l) ∙ moved-told (seen p) h c (alone (l .held) p (l .kept)) low high in
+          λ i. record { full = full (shows l i .depth) (shows l i .levels c); counts = counts (shows l i) h c; movedTo = m i };
     }
 
 pub asPlain : (ks : List Call) → AsPlain ks
@@ -153,6 +177,7 @@ change-but p (same k) = refl
 change-but p (lists l m r) =
     λ i.
     record {
+      depth = p .depth;
       serving = p .serving;
       neighbour = λ c. mem-reordered l m r c i;
       levels = λ c. cond (underWatch p c && (is (p .serving) c || mem-reordered l m r c i)) (p .levels c) [];
@@ -173,6 +198,7 @@ after-but p (more {k} {j} {ks} {js} b bs) = after-but (next p k) bs ∙ ap (λ (
 alike-both : {a b c : Compared} → Alike a b → Alike c b → Alike a c
 alike-both x y =
     record {
+      depth = x .depth ∙ sym (y .depth);
       serving = x .serving ∙ sym (y .serving);
       neighbour = λ c. x .neighbour c ∙ sym (y .neighbour c);
       levels = λ c. x .levels c ∙ sym (y .levels c);

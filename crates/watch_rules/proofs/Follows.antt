@@ -16,9 +16,8 @@ use Rattle.watch_rules.specs.Told.{Call}
 use Rattle.watch_rules.specs.Plain.{Plain, idle, after}
 use Rattle.watch_rules.specs.Rows.{channels, levelsOf}
 use Rattle.watch_rules.specs.Record.{rows, wellFormed, fresh, called, afterFrom}
-use Rattle.watch_rules.specs.Refusals.{Refuses, hysteresisBelow, hysteresisAbove, startAbove, listFaulty, fileNotWatched, askNotWatched, moveNotListed, listIdle, verdictIdle, burstOutOfRange}
+use Rattle.watch_rules.specs.Refusals.{Refuses, hysteresisBelow, hysteresisAbove, depthBelow, depthAbove, startAbove, listFaulty, fileNotWatched, askNotWatched, moveNotListed, listIdle, verdictIdle, burstOutOfRange}
 use Rattle.watch_rules.specs.Claims.{countOf, Follows, ItFollows, Reachable, UnformedRule}
-use Rattle.watch_rules.proofs.Depth.{depth-is}
 use Rattle.watch_rules.proofs.Laws.{byCase, and-left, and-right}
 use Rattle.watch_rules.proofs.Words.{distinct-times, every-times}
 use Rattle.watch_rules.proofs.Good.{levelsOk, Good, good-fits, few-levels, ranged-levels}
@@ -38,18 +37,18 @@ each-of f x (y ∷ l) e (List·Memᴰ·tail d) = each-of f x l (and-right (f y) 
 
 formed-follows : (w : Watch) → wellFormed w ≡ true → Follows w
 formed-follows w f =
-    let g : Good (rows w) = read-record w f .good in
-    let fine : (c : ℕ) → levelsOk (levelsOf c (rows w)) ≡ true = λ c. levels-fine c (rows w) (g .fine) in
+    let g : Good (w .depth) (rows w) = read-record w f .good in
+    let fine : (c : ℕ) → levelsOk (w .depth) (levelsOf c (rows w)) ≡ true = λ c. levels-fine (w .depth) c (rows w) (g .fine) in
     record {
       few = good-fits (rows w) g;
       differ = distinct-times (channels (rows w)) (g .apart);
-      inRange = λ c t. leb-true c 1087 (every-times channelInRange (channels (rows w)) (channels-fine (rows w) (g .fine)) c t);
+      inRange = λ c t. leb-true c 1087 (every-times channelInRange (channels (rows w)) (channels-fine (w .depth) (rows w) (g .fine)) c t);
       counts =
           λ c.
           let n : countOf c (take (w .watched) (w .tracks)) ≡ length (levelsOf c (rows w)) =
-          ap (λ (x : Watch). countOf c (take (x .watched) (x .tracks))) (sym (read-record w f .back)) ∙ count-record c (rows w) in
-          omega (arith, n, few-levels (levelsOf c (rows w)) (fine c), depth-is);
-      levels = λ c x m. rangeRule .level x .0 (each-of levelInRange x (levelsOf c (rows w)) (ranged-levels (levelsOf c (rows w)) (fine c)) m);
+          ap (λ (x : Watch). countOf c (take (x .watched) (x .tracks))) (sym (read-record w f .back)) ∙ count-record (w .depth) c (rows w) in
+          omega (arith, n, few-levels (w .depth) (levelsOf c (rows w)) (fine c));
+      levels = λ c x m. rangeRule .level x .0 (each-of levelInRange x (levelsOf c (rows w)) (ranged-levels (w .depth) (levelsOf c (rows w)) (fine c)) m);
     }
 
 pub itFollows : ItFollows
@@ -64,7 +63,9 @@ not-formed w n = byCase (wellFormed w) (λ e. absurd (n (wellFormedIsReachable w
 no-nine : {p : Plain} {k : Call} {n : ℕ} → Refuses p k n → n ≤ 7
 no-nine (hysteresisBelow h l) = omega arith
 no-nine (hysteresisAbove h l) = omega arith
-no-nine (startAbove c l) = omega arith
+no-nine (depthBelow c d l) = omega arith
+no-nine (depthAbove c d l) = omega arith
+no-nine (startAbove c d a b l) = omega arith
 no-nine (listFaulty l f) = omega arith
 no-nine (fileNotWatched c b w) = omega arith
 no-nine (askNotWatched c w) = omega arith

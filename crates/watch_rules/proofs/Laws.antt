@@ -10,7 +10,6 @@ use lib.ListN.{length, drop, take, length-append}
 use lib.Seq.{drop-at, take-length}
 use borrow.Author.Tests.{eqb-true, eqb-false, eq-eqb, ne-eqb}
 use Rattle.watch_rules.specs.Lists.{mem, every, lastN, padTo}
-use Rattle.watch_rules.specs.Limits.{depth}
 use Rattle.watch_rules.specs.Rules.{View}
 use Rattle.watch_rules.specs.Rows.{Row, channels, levelsOf, first, rest, pushAt}
 use Rattle.watch_rules.specs.Claims.{LastOf}
@@ -132,9 +131,9 @@ every-snoc f (a ∷ l) x e h =
 
 -- ---- a channel's row
 
-pub view-path : {u v : View} → u .serving ≡ v .serving → ((c : ℕ) → u .neighbour c ≡ v .neighbour c)
+pub view-path : {u v : View} → u .depth ≡ v .depth → u .serving ≡ v .serving → ((c : ℕ) → u .neighbour c ≡ v .neighbour c)
     → ((c : ℕ) → u .levels c ≡ v .levels c) → u ≡ v
-view-path p q r = λ i. record { serving = p i; neighbour = λ c. q c i; levels = λ c. r c i }
+view-path o p q r = λ i. record { depth = o i; serving = p i; neighbour = λ c. q c i; levels = λ c. r c i }
 
 pub levels-none : (d : ℕ) (rs : List Row) → mem d (channels rs) ≡ false → levelsOf d rs ≡ []
 levels-none d [] e = refl
@@ -144,27 +143,28 @@ levels-none d (r ∷ rs) e =
 
 -- ---- a level that is filed
 
-pub channels-push : (c : ℕ) (x : ℤ) (rs : List Row) → channels (pushAt c x rs) ≡ channels rs
-channels-push c x [] = refl
-channels-push c x (r ∷ rs) =
-    byCase (eqb (r .channel) c) (λ q. rw q) (λ q. rw q (ap (_∷_ (r .channel)) (channels-push c x rs)))
+module _ (depth c : ℕ) (x : ℤ) where
+  pub channels-push : (rs : List Row) → channels (pushAt depth c x rs) ≡ channels rs
+  channels-push [] = refl
+  channels-push (r ∷ rs) =
+      byCase (eqb (r .channel) c) (λ q. rw q) (λ q. rw q (ap (_∷_ (r .channel)) (channels-push rs)))
 
-pub first-push : (c : ℕ) (x : ℤ) (rs : List Row) → first (pushAt c x rs) ≡ first rs
-first-push c x [] = refl
-first-push c x (r ∷ rs) = byCase (eqb (r .channel) c) (λ q. rw q) (λ q. rw q)
+  pub first-push : (rs : List Row) → first (pushAt depth c x rs) ≡ first rs
+  first-push [] = refl
+  first-push (r ∷ rs) = byCase (eqb (r .channel) c) (λ q. rw q) (λ q. rw q)
 
-pub rest-push : (c : ℕ) (x : ℤ) (rs : List Row) → channels (rest (pushAt c x rs)) ≡ channels (rest rs)
-rest-push c x [] = refl
-rest-push c x (r ∷ rs) = byCase (eqb (r .channel) c) (λ q. rw q) (λ q. rw q (channels-push c x rs))
+  pub rest-push : (rs : List Row) → channels (rest (pushAt depth c x rs)) ≡ channels (rest rs)
+  rest-push [] = refl
+  rest-push (r ∷ rs) = byCase (eqb (r .channel) c) (λ q. rw q) (λ q. rw q (channels-push rs))
 
-pub levels-push : (c d : ℕ) (x : ℤ) (rs : List Row) → mem c (channels rs) ≡ true
-    → levelsOf d (pushAt c x rs) ≡ cond (eqb c d) (lastN depth (levelsOf d rs ++ x ∷ [])) (levelsOf d rs)
-levels-push c d x [] h = clash h refl
-levels-push c d x (r ∷ rs) h =
-    byCase (eqb (r .channel) c)
-    (λ q. byCase (eqb (r .channel) d)
-    (λ v. let e : eqb c d ≡ true = eq-eqb c d (sym (eqb-true (r .channel) c q) ∙ eqb-true (r .channel) d v) in rw (q, e, v))
-    (λ v. let e : eqb c d ≡ false = ne-eqb c d (λ z. eqb-false (r .channel) d v (eqb-true (r .channel) c q ∙ z)) in rw (q, e, v)))
-    (λ q. byCase (eqb (r .channel) d)
-    (λ v. let e : eqb c d ≡ false = ne-eqb c d (λ z. eqb-false (r .channel) c q (eqb-true (r .channel) d v ∙ sym z)) in rw (q, e, v))
-    (λ v. rw (q, v) (levels-push c d x rs (or-true-right (eqb (r .channel) c) (mem c (channels rs)) h q))))
+  pub levels-push : (d : ℕ) (rs : List Row) → mem c (channels rs) ≡ true
+      → levelsOf d (pushAt depth c x rs) ≡ cond (eqb c d) (lastN depth (levelsOf d rs ++ x ∷ [])) (levelsOf d rs)
+  levels-push d [] h = clash h refl
+  levels-push d (r ∷ rs) h =
+      byCase (eqb (r .channel) c)
+      (λ q. byCase (eqb (r .channel) d)
+      (λ v. let e : eqb c d ≡ true = eq-eqb c d (sym (eqb-true (r .channel) c q) ∙ eqb-true (r .channel) d v) in rw (q, e, v))
+      (λ v. let e : eqb c d ≡ false = ne-eqb c d (λ z. eqb-false (r .channel) d v (eqb-true (r .channel) c q ∙ z)) in rw (q, e, v)))
+      (λ q. byCase (eqb (r .channel) d)
+      (λ v. let e : eqb c d ≡ false = ne-eqb c d (λ z. eqb-false (r .channel) c q (eqb-true (r .channel) d v ∙ sym z)) in rw (q, e, v))
+      (λ v. rw (q, v) (levels-push d rs (or-true-right (eqb (r .channel) c) (mem c (channels rs)) h q))))

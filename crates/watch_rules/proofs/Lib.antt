@@ -1,7 +1,8 @@
 -- The laws of the watch's rules and the proofs of the claims, in the order in which they stand on each other.
-pub mod Depth
 pub mod Levels
 pub mod Laws
+pub mod Depth
+pub mod Recast
 pub mod Words
 pub mod Good
 pub mod Encode
@@ -23,5 +24,6 @@ pub mod Verdict
 pub mod Mean
 pub mod Unchanged
 pub mod Follows
+pub mod DepthKept
 pub mod Places
 pub mod Told

@@ -16,8 +16,8 @@ use Rattle.watch_rules.specs.declared.Watch.{Watch}
 use Rattle.watch_rules.specs.Lists.{mem, distinct}
 use Rattle.watch_rules.specs.Told.{Call, newList, move, Called, accepted}
 use Rattle.watch_rules.specs.Rules.{refusal}
-use Rattle.watch_rules.specs.Rows.{Row, channels, shown, listed, moved, inPlaceOf, changedRows}
-use Rattle.watch_rules.specs.Record.{rows, wellFormed, called}
+use Rattle.watch_rules.specs.Rows.{Row, channels, listed, moved, inPlaceOf, changedRows, changedDepth}
+use Rattle.watch_rules.specs.Record.{rows, viewOf, wellFormed, called}
 use Rattle.watch_rules.specs.Claims.{ListRule}
 use Rattle.watch_rules.proofs.Laws.{byCase, and-right, or-false-left, or-false-right, drop-none}
 use Rattle.watch_rules.proofs.Encode.{rows-record, read-record}
@@ -54,13 +54,13 @@ module _ (w : Watch) (k : Call) (ok : called w k .answer ≡ gives accepted) whe
   formed : wellFormed w ≡ true
   formed = byCase (wellFormed w) (λ f. f) (λ f. absurd (gives-refused (sym ok ∙ ap (λ (o : Called). o .answer) (called-unformed w k f))))
 
-  left : channels (rows (called w k .watch)) ≡ channels (changedRows (rows w) k)
-  left = go (refusal (shown (rows w)) k) refl
+  left : channels (rows (called w k .watch)) ≡ channels (changedRows (w .depth) (rows w) k)
+  left = go (refusal (viewOf w) k) refl
     where
-      go : (o : Option Refusal) → refusal (shown (rows w)) k ≡ o → channels (rows (called w k .watch)) ≡ channels (changedRows (rows w) k)
+      go : (o : Option Refusal) → refusal (viewOf w) k ≡ o → channels (rows (called w k .watch)) ≡ channels (changedRows (w .depth) (rows w) k)
       go none e =
           ap (λ (o : Called). channels (rows (o .watch))) (called-granted w k formed e)
-          ∙ ap channels (rows-record (changedRows (rows w) k))
+          ∙ ap channels (rows-record (changedDepth (w .depth) k) (changedRows (w .depth) (rows w) k))
       go (some r) e = absurd (gives-refused (sym ok ∙ ap (λ (o : Called). o .answer) (called-refused w k formed r e)))
 
 pub listRule : ListRule

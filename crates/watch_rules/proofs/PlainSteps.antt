@@ -28,13 +28,14 @@ use Rattle.watch_rules.proofs.Refusals.{yes-watched, no-watched, from-r
 
 -- ---- what an accepted call leaves
 
-started : (c : ℕ) → Started c (afterStart c)
-started c = record { serving = refl; neighbours = λ d. refl; levels = λ d. refl }
+started : (c d : ℕ) → Started c d (afterStart c d)
+started c d = record { depth = refl; serving = refl; neighbours = λ e. refl; levels = λ e. refl }
 
 module _ (p : Plain) where
   listed : (l : List ℕ) → Listed p l (afterNewList p l)
   listed l =
       record {
+        depth = refl;
         serving = refl;
         neighbours = λ c. (mem-times c l, times-mem c l);
         kept = λ c w v. ap (chosen c) (and-both (yes-watched p c w) (yes-watched (afterNewList p l) c v));
@@ -51,6 +52,7 @@ module _ (p : Plain) where
   moved : (c : ℕ) → Moved p c (afterMove p c)
   moved c =
       record {
+        depth = refl;
         serving = refl;
         neighbours =
             λ d. (
@@ -75,6 +77,7 @@ module _ (p : Plain) where
   filed : (c : ℕ) (level quality : ℤ) → Filed p c level (afterFile p c (gives (heard level quality)))
   filed c level quality =
       record {
+        depth = refl;
         serving = refl;
         neighbours = λ d. refl;
         newest = rw (eq-eqb c c refl);
@@ -102,7 +105,7 @@ module _ (p : Plain) where
   steps =
       record {
         refusing = λ k n row. (from-row p row, refused-next k n (from-row p row));
-        starts = λ c a. subst (Started c) (accepted-next (start c) a) (started c);
+        starts = λ c d a. subst (Started c d) (accepted-next (start c d) a) (started c d);
         lists = λ l a. subst (Listed p l) (accepted-next (newList l) a) (listed l);
         moves = λ c a. subst (Moved p c) (accepted-next (move c) a) (moved c);
         files =
@@ -114,4 +117,4 @@ module _ (p : Plain) where
       }
 
 pub plainRule : PlainRule
-plainRule = record { begins = record { serving = refl; neighbours = λ c. refl; levels = λ c. refl }; steps = steps }
+plainRule = record { begins = record { depth = refl; serving = refl; neighbours = λ c. refl; levels = λ c. refl }; steps = steps }

@@ -11,7 +11,7 @@ use lib.Dec.{leb}
 use lib.IntN.{ℤ, pos}
 use lib.Signed.{leZ, _<ℤ_, clashℤ}
 use lib.ListN.{length}
-use borrow.Author.Tests.{lt-leb, leb-true, leb-false}
+use borrow.Author.Tests.{le-leb, lt-leb, leb-true, leb-false}
 use Rattle.refusal.specs.declared.Refusal.{Refusal}
 use Rattle.refusal.specs.declared.Refusal.the-variants as why
 use Rattle.refusal.specs.Number.{numberOf}
@@ -21,12 +21,13 @@ use Rattle.readings_rules.specs.Channels.{channelInRange}
 use Rattle.readings_rules.specs.Burst.{BurstResult, burstOf}
 use Rattle.readings_rules.proofs.Bursts.{burst-1}
 use Rattle.watch_rules.specs.Lists.{distinct, every, is}
-use Rattle.watch_rules.specs.Limits.{listLimit, hysteresisInRange}
+use Rattle.watch_rules.specs.Limits.{listLimit, hysteresisInRange, depthInRange}
 use Rattle.watch_rules.specs.Told.{Call, start, newList, move, file, ask, verdict, Given}
 use Rattle.watch_rules.specs.Rules.{watched, serves, listSound, refuseUnless, burstRefusal, refusal, answer, granted}
 use Rattle.watch_rules.specs.Plain.{Plain, seen}
-use Rattle.watch_rules.specs.Refusals.{Watched, Faulty, tooLong, above, repeated, servingIn, Refuses, Accepted, hysteresisBelow, hysteresisAbove, startAbove, listFaulty, fileNotWatched, askNotWatched, moveNotListed, listIdle, verdictIdle, burstOutOfRange}
+use Rattle.watch_rules.specs.Refusals.{Watched, Faulty, tooLong, above, repeated, servingIn, Refuses, Accepted, hysteresisBelow, hysteresisAbove, depthBelow, depthAbove, startAbove, listFaulty, fileNotWatched, askNotWatched, moveNotListed, listIdle, verdictIdle, burstOutOfRange}
 use Rattle.watch_rules.proofs.Laws.{byCase, clash, and-left, and-right, and-both, not-is, or-true-right}
+use Rattle.watch_rules.proofs.Depth.{depth-low, depth-high}
 use Rattle.watch_rules.proofs.Order.{le-yes, by-order}
 use Rattle.watch_rules.proofs.Calls.{refuse-now, refuse-later, refused-answer, granted-answer}
 use Rattle.watch_rules.proofs.Answers.{in-range}
@@ -57,6 +58,12 @@ too-low h l = byCase (hysteresisInRange h) (λ e. clashℤ l (le-yes (pos 0) h (
 
 too-high : (h : ℤ) → pos 6000 <ℤ h → hysteresisInRange h ≡ false
 too-high h l = byCase (hysteresisInRange h) (λ e. clashℤ l (le-yes h (pos 6000) (and-right (leZ (pos 0) h) (leZ h (pos 6000)) e))) (λ e. e)
+
+too-shallow : (d : ℕ) → d < 5 → depthInRange d ≡ false
+too-shallow d l = byCase (depthInRange d) (λ e. absurd (let k = depth-low d e in omega arith)) (λ e. e)
+
+too-deep : (d : ℕ) → 31 < d → depthInRange d ≡ false
+too-deep d l = byCase (depthInRange d) (λ e. absurd (let k = depth-high d e in omega arith)) (λ e. e)
 
 -- a list that may not be taken, and one that may
 module _ (p : Plain) (l : List ℕ) where
@@ -118,8 +125,14 @@ module _ (p : Plain) where
   known {k} q row = subst (λ (y : Refusal). Refuses p k (numberOf y)) q row
 
   row-of : (k : Call) (r : Refusal) → refusal (seen p) k ≡ some r → Refuses p k (numberOf r)
-  row-of (start c) r e =
-      refused-by (channelInRange c) why.ChannelOutOfRange none e (λ b q. known q (startAbove c (leb-false c 1087 b))) (λ b q. no-more q)
+  row-of (start c d) r e =
+      refused-by (depthInRange d) why.ParameterOutOfRange (refuseUnless (channelInRange c) why.ChannelOutOfRange none) e
+      (λ b q. byCase (leb 5 d)
+      (λ l. byCase (leb d 31) (λ m. clash (and-both l m) b) (λ m. known q (depthAbove c d (leb-false d 31 m))))
+      (λ l. known q (depthBelow c d (leb-false 5 d l))))
+      (λ b z. refused-by (channelInRange c) why.ChannelOutOfRange none z
+      (λ a q. known q (startAbove c d (depth-low d b) (depth-high d b) (leb-false c 1087 a)))
+      (λ a q. no-more q))
   row-of (newList l) r e =
       refused-by (listSound (p .serving) l) why.ListFaulty (refuseUnless (serves (p .serving)) why.NotWatched none) e
       (λ b q. known q (listFaulty l (list-faulty p l b)))
@@ -151,7 +164,11 @@ module _ (p : Plain) where
   pub from-row : {k : Call} {n : ℕ} → Refuses p k n → answer (seen p) k ≡ refused n
   from-row (hysteresisBelow h l) = refused-answer (seen p) (verdict h) why.ParameterOutOfRange (refuse-now why.ParameterOutOfRange _ (too-low h l))
   from-row (hysteresisAbove h l) = refused-answer (seen p) (verdict h) why.ParameterOutOfRange (refuse-now why.ParameterOutOfRange _ (too-high h l))
-  from-row (startAbove c l) = refused-answer (seen p) (start c) why.ChannelOutOfRange (refuse-now why.ChannelOutOfRange _ (lt-leb c 1087 l))
+  from-row (depthBelow c d l) = refused-answer (seen p) (start c d) why.ParameterOutOfRange (refuse-now why.ParameterOutOfRange _ (too-shallow d l))
+  from-row (depthAbove c d l) = refused-answer (seen p) (start c d) why.ParameterOutOfRange (refuse-now why.ParameterOutOfRange _ (too-deep d l))
+  from-row (startAbove c d a b l) =
+      refused-answer (seen p) (start c d) why.ChannelOutOfRange
+      (refuse-later why.ParameterOutOfRange (and-both (le-leb 5 d a) (le-leb d 31 b)) (refuse-now why.ChannelOutOfRange _ (lt-leb c 1087 l)))
   from-row (listFaulty l f) = refused-answer (seen p) (newList l) why.ListFaulty (refuse-now why.ListFaulty _ (not-sound f))
     where
       not-sound : Faulty p l → listSound (p .serving) l ≡ false

@@ -11,7 +11,7 @@ use lib.ListN.{length, length-map}
 use borrow.Author.Tests.{eqb-true, eqb-false, eq-eqb, ne-eqb, le-leb}
 use Rattle.watch_rules.specs.Lists.{mem, distinct, every}
 use Rattle.readings_rules.specs.Channels.{channelInRange}
-use Rattle.watch_rules.specs.Limits.{listLimit, room, depth}
+use Rattle.watch_rules.specs.Limits.{listLimit, depthInRange, room}
 use Rattle.watch_rules.specs.Rows.{Row, row, channels, levelsOf, rest, relisted, inPlaceOf}
 use Rattle.watch_rules.proofs.Laws.{byCase, clash, and-left, and-right, and-both, not-is, or-true-right, or-false-left, or-false-right, eqb-sym}
 use Rattle.watch_rules.proofs.Good.{levelsOk, rowFine, Good}
@@ -29,19 +29,19 @@ levels-made f d (c ∷ l) =
     (λ q. rw q (ap f (eqb-true c d q)))
     (λ q. rw q (levels-made f d l))
 
-pub levels-fine : (d : ℕ) (rs : List Row) → every rowFine rs ≡ true → levelsOk (levelsOf d rs) ≡ true
-levels-fine d [] e = and-both (leb·zero depth) refl
-levels-fine d (r ∷ rs) e =
+pub levels-fine : (depth d : ℕ) (rs : List Row) → every (rowFine depth) rs ≡ true → levelsOk depth (levelsOf d rs) ≡ true
+levels-fine depth d [] e = and-both (leb·zero depth) refl
+levels-fine depth d (r ∷ rs) e =
     byCase (eqb (r .channel) d)
-    (λ q. rw q (and-right (channelInRange (r .channel)) _ (and-left (rowFine r) (every rowFine rs) e)))
-    (λ q. rw q (levels-fine d rs (and-right (rowFine r) (every rowFine rs) e)))
+    (λ q. rw q (and-right (channelInRange (r .channel)) _ (and-left (rowFine depth r) (every (rowFine depth) rs) e)))
+    (λ q. rw q (levels-fine depth d rs (and-right (rowFine depth r) (every (rowFine depth) rs) e)))
 
-fine-made : (rs : List Row) (l : List ℕ) → every rowFine rs ≡ true → every channelInRange l ≡ true
-    → every rowFine (map (λ c. row c (levelsOf c rs)) l) ≡ true
-fine-made rs [] e h = refl
-fine-made rs (c ∷ l) e h =
-    and-both (and-both (and-left (channelInRange c) (every channelInRange l) h) (levels-fine c rs e))
-    (fine-made rs l e (and-right (channelInRange c) (every channelInRange l) h))
+fine-made : (depth : ℕ) (rs : List Row) (l : List ℕ) → every (rowFine depth) rs ≡ true → every channelInRange l ≡ true
+    → every (rowFine depth) (map (λ c. row c (levelsOf c rs)) l) ≡ true
+fine-made depth rs [] e h = refl
+fine-made depth rs (c ∷ l) e h =
+    and-both (and-both (and-left (channelInRange c) (every channelInRange l) h) (levels-fine depth c rs e))
+    (fine-made depth rs l e (and-right (channelInRange c) (every channelInRange l) h))
 
 -- ---- relisted rows
 
@@ -59,12 +59,14 @@ module _ (s : ℕ) (l : List ℕ) (rs : List Row) where
   levels-relisted d = levels-made (λ c. levelsOf c rs) d (s ∷ l)
 
   -- a sound list, and a serving channel that is in range and not in it, make good rows
-  pub good-relisted : Good rs → length l ≤ listLimit → every channelInRange (s ∷ l) ≡ true → distinct (s ∷ l) ≡ true → Good (relisted s l rs)
-  good-relisted g short ranged apart =
+  pub good-relisted : {depth : ℕ} → Good depth rs → depthInRange depth ≡ true → length l ≤ listLimit → every channelInRange (s ∷ l) ≡ true
+      → distinct (s ∷ l) ≡ true → Good depth (relisted s l rs)
+  good-relisted {depth} g deep short ranged apart =
       record {
+        depth = deep;
         short = le-leb (length (relisted s l rs)) room (omega (arith, length-relisted));
         apart = ap distinct channels-relisted ∙ apart;
-        fine = fine-made rs (s ∷ l) (g .fine) ranged;
+        fine = fine-made depth rs (s ∷ l) (g .fine) ranged;
       }
 
 -- ---- one channel in the place of another

@@ -1,21 +1,18 @@
 -- After every sequence of calls: the levels in the record are the last ones filed, and the next call is refused or accepted as the table says.
-use Prim.Native.Nat.{ℕ}
 use mathlib.Core.Path.{sym, ap, _∙_, subst}
-use Rattle.watch_rules.specs.Lists.{lastN}
 use Rattle.watch_rules.specs.Told.{start, newList, move, file}
 use Rattle.watch_rules.specs.Rules.{View}
 use Rattle.watch_rules.specs.Plain.{idle, after}
 use Rattle.watch_rules.specs.Claims.{LastOf, LevelsRule, RefusalRule, AcceptedRule}
-use Rattle.watch_rules.proofs.Depth.{depth-is}
 use Rattle.watch_rules.proofs.Levels.{last-of}
 use Rattle.watch_rules.proofs.Refusals.{to-row, from-row, no-row}
 use Rattle.watch_rules.proofs.Demand3.{linked, shows, answered-next}
 
 pub levelsRule : LevelsRule
 levelsRule ks c =
-    subst (LastOf 15 (after idle ks .levels c))
-    (ap (λ (n : ℕ). lastN n (after idle ks .levels c)) (sym depth-is) ∙ sym (ap (λ (v : View). v .levels c) (shows (linked ks))))
-    (last-of 15 (after idle ks .levels c))
+    subst (LastOf (after idle ks .depth) (after idle ks .levels c))
+    (sym (ap (λ (v : View). v .levels c) (shows (linked ks))))
+    (last-of (after idle ks .depth) (after idle ks .levels c))
 
 pub refusalRule : RefusalRule
 refusalRule ks k n = (
@@ -26,7 +23,7 @@ refusalRule ks k n = (
 pub acceptedRule : AcceptedRule
 acceptedRule =
     record {
-      starts = λ ks c n. answered-next ks (start c) ∙ no-row (after idle ks) (start c) n;
+      starts = λ ks c d n. answered-next ks (start c d) ∙ no-row (after idle ks) (start c d) n;
       lists = λ ks l n. answered-next ks (newList l) ∙ no-row (after idle ks) (newList l) n;
       moves = λ ks c n. answered-next ks (move c) ∙ no-row (after idle ks) (move c) n;
       files = λ ks c b n. answered-next ks (file c b) ∙ no-row (after idle ks) (file c b) n;

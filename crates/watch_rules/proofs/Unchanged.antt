@@ -10,8 +10,7 @@ use Rattle.refusal.proofs.OneToOne.{gives-refused}
 use Rattle.watch_rules.specs.declared.Watch.{Watch}
 use Rattle.watch_rules.specs.Told.{Call, ask, verdict, Called}
 use Rattle.watch_rules.specs.Rules.{refusal}
-use Rattle.watch_rules.specs.Rows.{shown, changedRows}
-use Rattle.watch_rules.specs.Record.{rows, recordOf, wellFormed, called}
+use Rattle.watch_rules.specs.Record.{rows, viewOf, recordOf, changedRecord, wellFormed, called}
 use Rattle.watch_rules.specs.Claims.{Unchanged}
 use Rattle.watch_rules.proofs.Laws.{byCase}
 use Rattle.watch_rules.proofs.Encode.{read-record}
@@ -24,24 +23,24 @@ watchOf o = o .watch
 
 module _ (w : Watch) (k : Call) where
   -- a call that keeps the rows
-  rows-kept : changedRows (rows w) k ≡ rows w → called w k .watch ≡ w
+  rows-kept : changedRecord (w .depth) (rows w) k ≡ recordOf (w .depth) (rows w) → called w k .watch ≡ w
   rows-kept same =
       byCase (wellFormed w)
-      (λ f. go f (refusal (shown (rows w)) k) refl)
+      (λ f. go f (refusal (viewOf w) k) refl)
       (λ f. ap watchOf (called-unformed w k f))
     where
-      go : wellFormed w ≡ true → (o : Option Refusal) → refusal (shown (rows w)) k ≡ o → called w k .watch ≡ w
-      go f none e = ap watchOf (called-granted w k f e) ∙ ap recordOf same ∙ read-record w f .back
+      go : wellFormed w ≡ true → (o : Option Refusal) → refusal (viewOf w) k ≡ o → called w k .watch ≡ w
+      go f none e = ap watchOf (called-granted w k f e) ∙ same ∙ read-record w f .back
       go f (some r) e = ap watchOf (called-refused w k f r e)
 
   -- a refused call
   refusal-keeps : (n : ℕ) → called w k .answer ≡ refused n → called w k .watch ≡ w
   refusal-keeps n told =
       byCase (wellFormed w)
-      (λ f. go f (refusal (shown (rows w)) k) refl)
+      (λ f. go f (refusal (viewOf w) k) refl)
       (λ f. ap watchOf (called-unformed w k f))
     where
-      go : wellFormed w ≡ true → (o : Option Refusal) → refusal (shown (rows w)) k ≡ o → called w k .watch ≡ w
+      go : wellFormed w ≡ true → (o : Option Refusal) → refusal (viewOf w) k ≡ o → called w k .watch ≡ w
       go f none e = absurd (gives-refused (sym (ap (λ (o : Called). o .answer) (called-granted w k f e)) ∙ told))
       go f (some r) e = ap watchOf (called-refused w k f r e)
 

@@ -16,12 +16,11 @@ use Rattle.refusal.specs.Told.{Told, gives}
 use Rattle.watch_rules.specs.declared.Watch.{Watch}
 use Rattle.watch_rules.specs.Lists.{every, is, sum}
 use Rattle.readings_rules.specs.Channels.{channelHighest, channelInRange}
-use Rattle.watch_rules.specs.Limits.{depth}
 use Rattle.watch_rules.specs.Told.{Call, verdict, Given, wait, stay, moveTo}
 use Rattle.watch_rules.specs.Rules.{View, serves, answer, full, levelsIf, servingLevels, exceeds, counts, target, stayOrMove, verdictOf}
 use Rattle.watch_rules.specs.Plain.{idle, after}
 use Rattle.watch_rules.specs.Rows.{Row, channels, shown}
-use Rattle.watch_rules.specs.Record.{rows, wellFormed, fresh, called, afterFrom}
+use Rattle.watch_rules.specs.Record.{rows, viewOf, wellFormed, fresh, called, afterFrom}
 use Rattle.watch_rules.specs.Claims.{ofRecord, movesTo, VerdictRule, PartRule}
 use Rattle.watch_rules.specs.Claims as claims
 use Rattle.watch_rules.proofs.Laws.{byCase, clash, and-left, and-right, and-both}
@@ -39,10 +38,10 @@ use Rattle.watch_rules.proofs.Words.{is-some}
 -- ---- who counts and who is the strongest, over what a watch shows; `claims` says it where s serves
 
 pub record Counts (v : View) (h : ℤ) (c : ℕ) : Type 0 where
-  pub serving : depth ≤ length (servingLevels v)
+  pub serving : v .depth ≤ length (servingLevels v)
   pub neighbour : v .neighbour c ≡ true
-  pub full : depth ≤ length (v .levels c)
-  pub exceeds : (sum (servingLevels v) +ℤ pos depth *ℤ h) <ℤ sum (v .levels c)
+  pub full : v .depth ≤ length (v .levels c)
+  pub exceeds : (sum (servingLevels v) +ℤ pos (v .depth) *ℤ h) <ℤ sum (v .levels c)
 
 pub record Strongest (v : View) (h : ℤ) (c : ℕ) : Type 0 where
   pub counting : Counts v h c
@@ -51,40 +50,40 @@ pub record Strongest (v : View) (h : ℤ) (c : ℕ) : Type 0 where
 
 -- ---- the tests
 
-pub full-yes : (l : List ℤ) → full l ≡ true → depth ≤ length l
+pub full-yes : (d : ℕ) (l : List ℤ) → full d l ≡ true → d ≤ length l
 unfolding full
-full-yes l e = leb-true depth (length l) e
+full-yes d l e = leb-true d (length l) e
 
-pub yes-full : (l : List ℤ) → depth ≤ length l → full l ≡ true
+pub yes-full : (d : ℕ) (l : List ℤ) → d ≤ length l → full d l ≡ true
 unfolding full
-yes-full l h = le-leb depth (length l) h
+yes-full d l h = le-leb d (length l) h
 
-pub full-no : (l : List ℤ) → full l ≡ false → length l < depth
+pub full-no : (d : ℕ) (l : List ℤ) → full d l ≡ false → length l < d
 unfolding full
-full-no l e = leb-false depth (length l) e
+full-no d l e = leb-false d (length l) e
 
-pub no-full : (l : List ℤ) → length l < depth → full l ≡ false
+pub no-full : (d : ℕ) (l : List ℤ) → length l < d → full d l ≡ false
 unfolding full
-no-full l h = lt-leb depth (length l) h
+no-full d l h = lt-leb d (length l) h
 
 module _ (v : View) (h : ℤ) (c : ℕ) where
   pub counts-yes : counts v h c ≡ true → Counts v h c
   unfolding counts
   counts-yes e =
-      let a : (v .neighbour c && (full (v .levels c) && exceeds v h c)) ≡ true = and-right (full (servingLevels v)) _ e in
-      let b : (full (v .levels c) && exceeds v h c) ≡ true = and-right (v .neighbour c) _ a in
+      let a : (v .neighbour c && (full (v .depth) (v .levels c) && exceeds v h c)) ≡ true = and-right (full (v .depth) (servingLevels v)) _ e in
+      let b : (full (v .depth) (v .levels c) && exceeds v h c) ≡ true = and-right (v .neighbour c) _ a in
       record {
-        serving = full-yes (servingLevels v) (and-left (full (servingLevels v)) _ e);
+        serving = full-yes (v .depth) (servingLevels v) (and-left (full (v .depth) (servingLevels v)) _ e);
         neighbour = and-left (v .neighbour c) _ a;
-        full = full-yes (v .levels c) (and-left (full (v .levels c)) (exceeds v h c) b);
-        exceeds = lt-yes (sum (servingLevels v) +ℤ pos depth *ℤ h) (sum (v .levels c)) (and-right (full (v .levels c)) (exceeds v h c) b);
+        full = full-yes (v .depth) (v .levels c) (and-left (full (v .depth) (v .levels c)) (exceeds v h c) b);
+        exceeds = lt-yes (sum (servingLevels v) +ℤ pos (v .depth) *ℤ h) (sum (v .levels c)) (and-right (full (v .depth) (v .levels c)) (exceeds v h c) b);
       }
 
   pub yes-counts : Counts v h c → counts v h c ≡ true
   unfolding counts
   yes-counts k =
-      and-both (yes-full (servingLevels v) (k .serving))
-      (and-both (k .neighbour) (and-both (yes-full (v .levels c) (k .full)) (yes-lt (k .exceeds))))
+      and-both (yes-full (v .depth) (servingLevels v) (k .serving))
+      (and-both (k .neighbour) (and-both (yes-full (v .depth) (v .levels c) (k .full)) (yes-lt (k .exceeds))))
 
 -- ---- the one moved to
 
@@ -165,41 +164,39 @@ wait-is-no : (g : Given) → g ≡ wait → (g ≡ stay → ⊥) × ((c : ℕ) �
 wait-is-no g e = ((λ q. let z : _≡_ {A = ℕ} 0 1 = cc in omega arith), (λ c q. let z : _≡_ {A = ℕ} 0 1 = cc in omega arith))
 
 module _ (v : View) (h : ℤ) where
-  pub verdict-full : full (servingLevels v) ≡ true → verdictOf v h ≡ stayOrMove (target v h)
+  pub verdict-full : full (v .depth) (servingLevels v) ≡ true → verdictOf v h ≡ stayOrMove (target v h)
   verdict-full e = ap (λ (b : Bool). cond b (stayOrMove (target v h)) wait) e
 
-  pub verdict-waits : full (servingLevels v) ≡ false → verdictOf v h ≡ wait
+  pub verdict-waits : full (v .depth) (servingLevels v) ≡ false → verdictOf v h ≡ wait
   verdict-waits e = ap (λ (b : Bool). cond b (stayOrMove (target v h)) wait) e
 
 -- where a channel serves, its levels are the serving ones: what is said over the one is said over the other
-module _ (w : Watch) (s : ℕ) (h : ℤ) (serving : shown (rows w) .serving ≡ some s) where
+module _ (w : Watch) (s : ℕ) (h : ℤ) (serving : viewOf w .serving ≡ some s) where
   abbrev view : View
-  view = shown (rows w)
+  view = viewOf w
 
   own : servingLevels view ≡ view .levels s
   own = ap (levelsIf view) serving
 
-  counts-out : {c : ℕ} → Counts view h c → claims.Counts (ofRecord w) s h c
-  unfolding depth
+  counts-out : {c : ℕ} → Counts view h c → claims.Counts (w .depth) (ofRecord w) s h c
   counts-out {c} k =
       record {
-        serving = subst (λ (l : List ℤ). depth ≤ length l) own (k .serving);
+        serving = subst (λ (l : List ℤ). w .depth ≤ length l) own (k .serving);
         neighbour = k .neighbour;
         full = k .full;
-        exceeds = subst (λ (l : List ℤ). (sum l +ℤ pos depth *ℤ h) <ℤ sum (view .levels c)) own (k .exceeds);
+        exceeds = subst (λ (l : List ℤ). (sum l +ℤ pos (w .depth) *ℤ h) <ℤ sum (view .levels c)) own (k .exceeds);
       }
 
-  counts-in : {c : ℕ} → claims.Counts (ofRecord w) s h c → Counts view h c
-  unfolding depth
+  counts-in : {c : ℕ} → claims.Counts (w .depth) (ofRecord w) s h c → Counts view h c
   counts-in {c} k =
       record {
-        serving = subst (λ (l : List ℤ). depth ≤ length l) (sym own) (k .serving);
+        serving = subst (λ (l : List ℤ). w .depth ≤ length l) (sym own) (k .serving);
         neighbour = k .neighbour;
         full = k .full;
-        exceeds = subst (λ (l : List ℤ). (sum l +ℤ pos depth *ℤ h) <ℤ sum (view .levels c)) (sym own) (k .exceeds);
+        exceeds = subst (λ (l : List ℤ). (sum l +ℤ pos (w .depth) *ℤ h) <ℤ sum (view .levels c)) (sym own) (k .exceeds);
       }
 
-  strongest-out : {c : ℕ} → Strongest view h c → claims.Strongest (ofRecord w) s h c
+  strongest-out : {c : ℕ} → Strongest view h c → claims.Strongest (w .depth) (ofRecord w) s h c
   strongest-out x =
       record {
         counting = counts-out (x .counting);
@@ -207,7 +204,7 @@ module _ (w : Watch) (s : ℕ) (h : ℤ) (serving : shown (rows w) .serving ≡ 
         lowest = λ d k e. x .lowest d (counts-in k) e;
       }
 
-  strongest-in : {c : ℕ} → claims.Strongest (ofRecord w) s h c → Strongest view h c
+  strongest-in : {c : ℕ} → claims.Strongest (w .depth) (ofRecord w) s h c → Strongest view h c
   strongest-in x =
       record {
         counting = counts-in (x .counting);
@@ -215,30 +212,28 @@ module _ (w : Watch) (s : ℕ) (h : ℤ) (serving : shown (rows w) .serving ≡ 
         lowest = λ d k e. x .lowest d (counts-out k) e;
       }
 
-  full-is : (l : List ℤ) → (full l ≡ true) ↔ (15 ≤ length l)
-  unfolding depth
-  full-is l = (full-yes l, yes-full l)
+  full-is : (l : List ℤ) → (full (w .depth) l ≡ true) ↔ (w .depth ≤ length l)
+  full-is l = (full-yes (w .depth) l, yes-full (w .depth) l)
 
-  waiting-is : (full (servingLevels view) ≡ false) ↔ (length (view .levels s) < 15)
-  unfolding depth
+  waiting-is : (full (w .depth) (servingLevels view) ≡ false) ↔ (length (view .levels s) < w .depth)
   waiting-is = (
-    (λ f. subst (λ (l : List ℤ). length l < depth) own (full-no (servingLevels view) f)),
-    (λ n. no-full (servingLevels view) (subst (λ (l : List ℤ). length l < depth) (sym own) n)),
+    (λ f. subst (λ (l : List ℤ). length l < w .depth) own (full-no (w .depth) (servingLevels view) f)),
+    (λ n. no-full (w .depth) (servingLevels view) (subst (λ (l : List ℤ). length l < w .depth) (sym own) n)),
   )
 
-  ready-is : (full (servingLevels view) ≡ true) ↔ (15 ≤ length (view .levels s))
-  ready-is = ((λ f. full-is (view .levels s) .0 (sym (ap full own) ∙ f)), (λ n. ap full own ∙ full-is (view .levels s) .1 n))
+  ready-is : (full (w .depth) (servingLevels view) ≡ true) ↔ (w .depth ≤ length (view .levels s))
+  ready-is = ((λ f. full-is (view .levels s) .0 (sym (ap (full (w .depth)) own) ∙ f)), (λ n. ap (full (w .depth)) own ∙ full-is (view .levels s) .1 n))
 
-  judged : Ranged view → claims.Judged (ofRecord w) s h (gives (verdictOf view h))
+  judged : Ranged view → claims.Judged (w .depth) (ofRecord w) s h (gives (verdictOf view h))
   judged ranged =
       record {
         waits = (
-          (λ e. byCase (full (servingLevels view)) (λ f. absurd (stay-or-move-wait (target view h) (sym (verdict-full view h f) ∙ given e)))
+          (λ e. byCase (full (w .depth) (servingLevels view)) (λ f. absurd (stay-or-move-wait (target view h) (sym (verdict-full view h f) ∙ given e)))
               (λ f. waiting-is .0 f)),
           (λ l. ap gives (verdict-waits view h (waiting-is .1 l))),
         );
         stays = (
-          (λ e. byCase (full (servingLevels view))
+          (λ e. byCase (full (w .depth) (servingLevels view))
               (λ f. (
                 ready-is .0 f,
                 (λ c k. none-target view h ranged (stay-or-move-stay (target view h) (sym (verdict-full view h f) ∙ given e)) c
@@ -248,7 +243,7 @@ module _ (w : Watch) (s : ℕ) (h : ℤ) (serving : shown (rows w) .serving ≡ 
           (λ n. ap gives (verdict-full view h (ready-is .1 (n .0)) ∙ ap stayOrMove (target-none view h ranged (λ c k. n .1 c (counts-out k))))),
         );
         moves = λ c. (
-          (λ e. byCase (full (servingLevels view))
+          (λ e. byCase (full (w .depth) (servingLevels view))
               (λ f. strongest-out (some-target view h ranged c (stay-or-move-move (target view h) c (sym (verdict-full view h f) ∙ given e))))
               (λ f. absurd (wait-is-no (verdictOf view h) (verdict-waits view h f) .1 c (given e)))),
           (λ x. ap gives (verdict-full view h (ready-is .1 (x .counting .serving)) ∙ ap stayOrMove (target-some view h ranged c (strongest-in x)))),
@@ -258,9 +253,9 @@ module _ (w : Watch) (s : ℕ) (h : ℤ) (serving : shown (rows w) .serving ≡ 
       given : {x y : Given} → _≡_ {A = Told Given} (gives x) (gives y) → x ≡ y
       given e = cc
 
-  takes : Ranged view → (c : ℕ) → movesTo (called w (verdict h) .answer) c ≡ is (target view h) c → claims.TakesPart (ofRecord w) s h c
+  takes : Ranged view → (c : ℕ) → movesTo (called w (verdict h) .answer) c ≡ is (target view h) c → claims.TakesPart (w .depth) (ofRecord w) s h c
   takes ranged c told =
-      let none-counts : length (view .levels s) < 15 → (d : ℕ) → Counts view h d → ⊥ =
+      let none-counts : length (view .levels s) < w .depth → (d : ℕ) → Counts view h d → ⊥ =
       λ l d k. (let x = counts-out k .serving in omega arith) in
       record {
         full = full-is (view .levels c);
@@ -278,37 +273,44 @@ module _ (w : Watch) (s : ℕ) (h : ℤ) (serving : shown (rows w) .serving ≡ 
 -- ---- after every sequence of calls
 
 -- the neighbours of good rows are in range, and so are those of a plain watch in step with them
-rows-ranged : (rs : List Row) → every rowFine rs ≡ true → Ranged (shown rs)
-rows-ranged [] e c m = clash m refl
-rows-ranged (r ∷ rs) e c m = every-mem channelInRange c (channels rs) (channels-fine rs (and-right (rowFine r) (every rowFine rs) e)) m
+rows-ranged : (d : ℕ) (rs : List Row) → every (rowFine d) rs ≡ true → Ranged (shown d rs)
+rows-ranged d [] e c m = clash m refl
+rows-ranged d (r ∷ rs) e c m = every-mem channelInRange c (channels rs) (channels-fine d rs (and-right (rowFine d r) (every (rowFine d) rs) e)) m
 
-pub formed-ranged : (w : Watch) → wellFormed w ≡ true → Ranged (shown (rows w))
-formed-ranged w f = rows-ranged (rows w) (read-record w f .good .fine)
+pub formed-ranged : (w : Watch) → wellFormed w ≡ true → Ranged (viewOf w)
+formed-ranged w f = rows-ranged (w .depth) (rows w) (read-record w f .good .fine)
 
 -- after every sequence of calls: what the record shows, and what it answers
 module _ (ks : List Call) where
   abbrev left : Watch
   left = afterFrom fresh ks
 
-  left-ranged : Ranged (shown (rows left))
+  left-ranged : Ranged (viewOf left)
   left-ranged = formed-ranged left (left-formed ks)
 
-  left-serving : (s : ℕ) → after idle ks .serving ≡ some s → shown (rows left) .serving ≡ some s
+  left-serving : (s : ℕ) → after idle ks .serving ≡ some s → viewOf left .serving ≡ some s
   left-serving s e = ap (λ (v : View). v .serving) (shows (linked ks)) ∙ e
 
-  left-answer : (h : ℤ) → called left (verdict h) .answer ≡ answer (shown (rows left)) (verdict h)
+  left-answer : (h : ℤ) → called left (verdict h) .answer ≡ answer (viewOf left) (verdict h)
   left-answer h = answered-next ks (verdict h) ∙ ap (λ (v : View). answer v (verdict h)) (sym (shows (linked ks)))
+
+  -- what holds at the record's depth holds at that of the plain watch
+  at-depth : (P : ℕ → Type 0) → P (left .depth) → P (after idle ks .depth)
+  at-depth P x = subst P (ap (λ (v : View). v .depth) (shows (linked ks))) x
 
 pub verdictRule : VerdictRule
 verdictRule ks s h e low high =
-    let v : View = shown (rows (afterFrom fresh ks)) in
+    let v : View = viewOf (afterFrom fresh ks) in
     let o : v .serving ≡ some s = left-serving ks s e in
-    subst (claims.Judged (ofRecord (afterFrom fresh ks)) s h)
+    at-depth ks (λ n. claims.Judged n (ofRecord (afterFrom fresh ks)) s h (called (afterFrom fresh ks) (verdict h) .answer))
+    (subst (claims.Judged (afterFrom fresh ks .depth) (ofRecord (afterFrom fresh ks)) s h)
     (sym (left-answer ks h
     ∙ granted-answer v (verdict h) (refuse-later why.ParameterOutOfRange (in-range h low high) (refuse-later why.NotWatched (ap serves o) refl))))
-    (judged (afterFrom fresh ks) s h o (left-ranged ks))
+    (judged (afterFrom fresh ks) s h o (left-ranged ks)))
 
 pub partRule : PartRule
 partRule ks s h e low high c =
-    takes (afterFrom fresh ks) s h (left-serving ks s e) (left-ranged ks) c
-    (ap (λ (a : Told Given). movesTo a c) (left-answer ks h) ∙ moved-told (shown (rows (afterFrom fresh ks))) h c low high)
+    at-depth ks (λ n. claims.TakesPart n (ofRecord (afterFrom fresh ks)) s h c)
+    (takes (afterFrom fresh ks) s h (left-serving ks s e) (left-ranged ks) c
+    (ap (λ (a : Told Given). movesTo a c) (left-answer ks h)
+    ∙ moved-told (viewOf (afterFrom fresh ks)) h c (λ z. clash (ap serves (left-serving ks s e)) z) low high))

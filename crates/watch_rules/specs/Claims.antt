@@ -4,13 +4,13 @@ use mathlib.Core.Path.{_≡_}
 use mathlib.Core.Logic.{_↔_}
 use mathlib.Core.Bool.{Bool, true, false, cond}
 use mathlib.Core.List.{List, [], _∷_, _++_, List·Memᴰ}
-use mathlib.Core.Option.{Option, some}
+use mathlib.Core.Option.{Option, none, some}
 use lib.Dec.{T, eqb}
 use lib.IntN.{ℤ, pos, _+ℤ_, _*ℤ_}
 use lib.Signed.{_≤ℤ_, _<ℤ_}
 use lib.ListN.{length, take}
 use lib.Ieee.{binary32, fits}
-use mir.Syntax.{w16, w32}
+use mir.Syntax.{w16, w32, w64}
 use mir.Val.{Fits, SFits}
 use Rattle.refusal.specs.declared.Refusal.{Refusal}
 use Rattle.refusal.specs.Number.{numberOf}
@@ -24,18 +24,18 @@ use Rattle.watch_rules.specs.declared.Track.{Track}
 use Rattle.watch_rules.specs.declared.Watch.{Watch}
 use Rattle.watch_rules.specs.declared.Answer.the-variants as says
 use Rattle.watch_rules.specs.Lists.{mem, timesIn, distinct, every, is, lastN, sum}
-use Rattle.watch_rules.specs.Limits.{depth}
 use Rattle.watch_rules.specs.Told.{Call, start, newList, move, file, ask, verdict, Given, accepted, levels, wait, stay, moveTo, told, toldHanded}
 use Rattle.watch_rules.specs.Rules.{answer, mean, full, counts, target}
 use Rattle.watch_rules.specs.Plain.{Plain, idle, seen, next, answers, after}
-use Rattle.watch_rules.specs.Rows.{channels, levelsOf, first, rest, shown}
-use Rattle.watch_rules.specs.Record.{rows, wellFormed, fresh, called, tested, answersFrom, afterFrom}
+use Rattle.watch_rules.specs.Rows.{channels, levelsOf, first, rest}
+use Rattle.watch_rules.specs.Record.{rows, viewOf, wellFormed, fresh, called, tested, answersFrom, afterFrom}
 use Rattle.watch_rules.specs.Refusals.{Watched, Refuses, Accepted}
 use Rattle.watch_rules.specs.PlainSteps.{IsIdle, Started, Listed, Moved, Filed}
 
 -- ---- demand 3: what is compared besides the answers
 
--- a channel's part in the verdict at a hysteresis: "whether it has 15 levels, whether it counts and whether it is the one moved to"
+-- a channel's part in the verdict at a hysteresis: "whether it has 15 levels, whether it counts and whether it is the one moved to", the
+-- depth for 15
 pub record Part : Type 0 where
   pub full : Bool
   pub counts : Bool
@@ -60,8 +60,9 @@ movesTo (gives stay) c = false
 movesTo (gives (moveTo d)) c = eqb d c
 
 -- "after the last call the serving channel, the set of neighbours and, for each channel under watch, the levels .., oldest first, ..
--- and its count, mean and part in the verdict": here for each channel number, and one that is not under watch has no levels
+-- and its count, mean and part in the verdict": here for each channel number, and one that is not under watch has no levels. And the depth
 pub record Compared : Type 0 where
+  pub depth : ℕ
   pub serving : Option ℕ
   pub neighbour : ℕ → Bool
   pub levels : ℕ → List ℤ
@@ -78,6 +79,7 @@ countOf c (t ∷ ts) = cond (eqb (t .channel) c) (t .count) (countOf c ts)
 abbrev pub ofRecord : Watch → Compared
 ofRecord w =
     record {
+      depth = w .depth;
       serving = first (rows w);
       neighbour = λ c. mem c (channels (rest (rows w)));
       levels = λ c. levelsOf c (rows w);
@@ -86,26 +88,34 @@ ofRecord w =
       part =
           λ h c.
           record {
-            full = full (levelsOf c (rows w));
-            counts = counts (shown (rows w)) h c;
+            full = full (w .depth) (levelsOf c (rows w));
+            counts = counts (viewOf w) h c;
             movedTo = movesTo (called w (verdict h) .answer) c;
           };
     }
 
--- of the plain watch: the last 15 levels or fewer of all filed since the channel came under watch, and what the rules give of these
+-- of the plain watch: the last levels, as many as its depth or fewer, of all filed since the channel came under watch, and what the rules give of these
 abbrev pub ofPlain : Plain → Compared
 ofPlain p =
     record {
+      depth = p .depth;
       serving = p .serving;
       neighbour = p .neighbour;
-      levels = λ c. lastN depth (p .levels c);
-      count = λ c. length (lastN depth (p .levels c));
-      mean = λ c. mean (lastN depth (p .levels c));
-      part = λ h c. record { full = full (lastN depth (p .levels c)); counts = counts (seen p) h c; movedTo = is (target (seen p) h) c };
+      levels = λ c. lastN (p .depth) (p .levels c);
+      count = λ c. length (lastN (p .depth) (p .levels c));
+      mean = λ c. mean (lastN (p .depth) (p .levels c));
+      part =
+          λ h c.
+          record {
+            full = full (p .depth) (lastN (p .depth) (p .levels c));
+            counts = counts (seen p) h c;
+            movedTo = is (target (seen p) h) c;
+          };
     }
 
 -- alike in all of this, the part in the verdict at each hysteresis of 0 to 6,000
 pub record Alike (a b : Compared) : Type 0 where
+  pub depth : a .depth ≡ b .depth
   pub serving : a .serving ≡ b .serving
   pub neighbour : (c : ℕ) → a .neighbour c ≡ b .neighbour c
   pub levels : (c : ℕ) → a .levels c ≡ b .levels c
@@ -149,7 +159,7 @@ pub record Demand3 : Type 0 where
 
 -- ---- well formed
 
--- a call that can be made: a channel is a u16, a hysteresis an i32, and each float one that an f32 holds
+-- a call that can be made: a channel is a u16, a depth a usize, a hysteresis an i32, and each float one that an f32 holds
 abbrev pub Single : Burst → Type 0
 Single (Heard r) = T (fits binary32 (r .level)) × T (fits binary32 (r .quality))
 Single Missed = Unit {0}
@@ -159,7 +169,7 @@ AllChannels [] = Unit {0}
 AllChannels (c ∷ cs) = Fits w16 c × AllChannels cs
 
 abbrev pub CanBeMade : Call → Type 0
-CanBeMade (start c) = Fits w16 c
+CanBeMade (start c d) = Fits w16 c × Fits w64 d
 CanBeMade (newList l) = AllChannels l
 CanBeMade (move c) = Fits w16 c
 CanBeMade (file c b) = Fits w16 c × Single b
@@ -180,13 +190,13 @@ pub record Reachable (w : Watch) : Type 0 where
 abbrev pub WellFormedIsReachable : Type 0
 WellFormedIsReachable = (w : Watch) → (wellFormed w ≡ true) ↔ Reachable w
 
--- "It follows that channels differ and are in range, counts are at most 15, levels are in range": of every record that calls leave. It has
--- a channel for each row, at most 7
+-- "It follows that channels differ and are in range, counts are at most 15, levels are in range", the depth for 15: of every record that
+-- calls leave. It has a channel for each row, at most 7
 pub record Follows (w : Watch) : Type 0 where
   pub few : length (rows w) ≤ 7
   pub differ : (c : ℕ) → timesIn c (channels (rows w)) ≤ 1
   pub inRange : (c : ℕ) → 0 < timesIn c (channels (rows w)) → c ≤ 1087
-  pub counts : (c : ℕ) → countOf c (take (w .watched) (w .tracks)) ≤ 15
+  pub counts : (c : ℕ) → countOf c (take (w .watched) (w .tracks)) ≤ w .depth
   pub levels : (c : ℕ) (x : ℤ) → List·Memᴰ x (levelsOf c (rows w)) → LevelInRange x
 
 abbrev pub ItFollows : Type 0
@@ -241,7 +251,7 @@ pub record SequenceRule : Type 0 where
 -- call": the steps of the plain watch, whatever it holds
 pub record StepsOf (p : Plain) : Type 0 where
   pub refusing : (k : Call) (n : ℕ) → Refuses p k n → (answer (seen p) k ≡ refused n) × (next p k ≡ p)
-  pub starts : (c : ℕ) → Accepted p (start c) → Started c (next p (start c))
+  pub starts : (c d : ℕ) → Accepted p (start c d) → Started c d (next p (start c d))
   pub lists : (l : List ℕ) → Accepted p (newList l) → Listed p l (next p (newList l))
   pub moves : (c : ℕ) → Accepted p (move c) → Moved p c (next p (move c))
   pub files : (c : ℕ) (b : Burst) (level quality : ℤ) → Accepted p (file c b) → burstOf b ≡ gives (heard level quality) → Filed p c level (next p (file c b))
@@ -260,9 +270,10 @@ pub record LastOf {A : Type 0} (n : ℕ) (all last : List A) : Type 0 where
   pub joined : all ≡ older ++ last
   pub number : length last ≡ min n (length all)
 
--- "Those levels are the last ones, 15 at most, filed under that channel number since it last came under watch": the levels in the record
+-- "Those levels are the last ones, 15 at most, filed under that channel number since it last came under watch", the depth for 15: the
+-- levels in the record
 abbrev pub LevelsRule : Type 0
-LevelsRule = (ks : List Call) (c : ℕ) → LastOf 15 (after idle ks .levels c) (ofRecord (afterFrom fresh ks) .levels c)
+LevelsRule = (ks : List Call) (c : ℕ) → LastOf (after idle ks .depth) (after idle ks .levels c) (ofRecord (afterFrom fresh ks) .levels c)
 
 -- after every sequence of calls, the next is refused with a number exactly when the table says so
 abbrev pub RefusalRule : Type 0
@@ -273,7 +284,7 @@ abbrev pub Accepts : List Call → Call → Type 0
 Accepts ks k = Accepted (after idle ks) k → called (afterFrom fresh ks) k .answer ≡ gives accepted
 
 pub record AcceptedRule : Type 0 where
-  pub starts : (ks : List Call) (c : ℕ) → Accepts ks (start c)
+  pub starts : (ks : List Call) (c d : ℕ) → Accepts ks (start c d)
   pub lists : (ks : List Call) (l : List ℕ) → Accepts ks (newList l)
   pub moves : (ks : List Call) (c : ℕ) → Accepts ks (move c)
   pub files : (ks : List Call) (c : ℕ) (b : Burst) → Accepts ks (file c b)
@@ -295,45 +306,57 @@ AskRule =
     (ks : List Call) (c : ℕ) → Watched (after idle ks) c
     → Asked (ofRecord (afterFrom fresh ks) .levels c) (called (afterFrom fresh ks) (ask c) .answer)
 
--- of what a record shows, where s serves: "the neighbours that count are those with 15 levels whose sum exceeds the serving sum by more
--- than 15 times the hysteresis", once the serving channel has 15 levels itself
-pub record Counts (v : Compared) (s : ℕ) (h : ℤ) (c : ℕ) : Type 0 where
-  pub serving : 15 ≤ length (v .levels s)
+-- of what a record shows at depth n, where s serves: "the neighbours that count are those with 15 levels whose sum exceeds the serving sum
+-- by more than 15 times the hysteresis", the depth for 15, once the serving channel has as many levels itself
+pub record Counts (n : ℕ) (v : Compared) (s : ℕ) (h : ℤ) (c : ℕ) : Type 0 where
+  pub serving : n ≤ length (v .levels s)
   pub neighbour : v .neighbour c ≡ true
-  pub full : 15 ≤ length (v .levels c)
-  pub exceeds : (sum (v .levels s) +ℤ pos 15 *ℤ h) <ℤ sum (v .levels c)
+  pub full : n ≤ length (v .levels c)
+  pub exceeds : (sum (v .levels s) +ℤ pos n *ℤ h) <ℤ sum (v .levels c)
 
 -- "the one with the greatest sum, the lowest channel number among equals"
-pub record Strongest (v : Compared) (s : ℕ) (h : ℤ) (c : ℕ) : Type 0 where
-  pub counting : Counts v s h c
-  pub greatest : (d : ℕ) → Counts v s h d → sum (v .levels d) ≤ℤ sum (v .levels c)
-  pub lowest : (d : ℕ) → Counts v s h d → sum (v .levels d) ≡ sum (v .levels c) → c ≤ d
+pub record Strongest (n : ℕ) (v : Compared) (s : ℕ) (h : ℤ) (c : ℕ) : Type 0 where
+  pub counting : Counts n v s h c
+  pub greatest : (d : ℕ) → Counts n v s h d → sum (v .levels d) ≤ℤ sum (v .levels c)
+  pub lowest : (d : ℕ) → Counts n v s h d → sum (v .levels d) ≡ sum (v .levels c) → c ≤ d
 
--- `"wait" while the serving channel has fewer than 15 levels. Otherwise .. None: "stay". Else "move" to the one with the greatest sum`:
--- each of the three exactly then
-pub record Judged (v : Compared) (s : ℕ) (h : ℤ) (a : Told Given) : Type 0 where
-  pub waits : (a ≡ gives wait) ↔ (length (v .levels s) < 15)
-  pub stays : (a ≡ gives stay) ↔ ((15 ≤ length (v .levels s)) × ((c : ℕ) → ¬ (Counts v s h c)))
-  pub moves : (c : ℕ) → (a ≡ gives (moveTo c)) ↔ Strongest v s h c
+-- `"wait" while the serving channel has fewer than 15 levels. Otherwise .. None: "stay". Else "move" to the one with the greatest sum`, the
+-- depth for 15: each of the three exactly then
+pub record Judged (n : ℕ) (v : Compared) (s : ℕ) (h : ℤ) (a : Told Given) : Type 0 where
+  pub waits : (a ≡ gives wait) ↔ (length (v .levels s) < n)
+  pub stays : (a ≡ gives stay) ↔ ((n ≤ length (v .levels s)) × ((c : ℕ) → ¬ (Counts n v s h c)))
+  pub moves : (c : ℕ) → (a ≡ gives (moveTo c)) ↔ Strongest n v s h c
 
--- after every sequence of calls, at each hysteresis of 0 to 6,000, where a channel serves: what the call answers
+-- after every sequence of calls, at each hysteresis of 0 to 6,000, where a channel serves: what the call answers, by the depth of the plain
+-- watch
 abbrev pub VerdictRule : Type 0
 VerdictRule =
     (ks : List Call) (s : ℕ) (h : ℤ) → after idle ks .serving ≡ some s → pos 0 ≤ℤ h → h ≤ℤ pos 6000
-    → Judged (ofRecord (afterFrom fresh ks)) s h (called (afterFrom fresh ks) (verdict h) .answer)
+    → Judged (after idle ks .depth) (ofRecord (afterFrom fresh ks)) s h (called (afterFrom fresh ks) (verdict h) .answer)
 
--- a channel's part in the verdict by the same words; while the serving channel has fewer than 15 levels, nothing counts and nothing is
--- moved to
-pub record TakesPart (v : Compared) (s : ℕ) (h : ℤ) (c : ℕ) : Type 0 where
-  pub full : (v .part h c .full ≡ true) ↔ (15 ≤ length (v .levels c))
-  pub counts : (v .part h c .counts ≡ true) ↔ Counts v s h c
-  pub movedTo : (v .part h c .movedTo ≡ true) ↔ Strongest v s h c
-  pub waiting : length (v .levels s) < 15 → (v .part h c .counts ≡ false) × (v .part h c .movedTo ≡ false)
+-- a channel's part in the verdict by the same words; while the serving channel has fewer levels than the depth, nothing counts and nothing
+-- is moved to
+pub record TakesPart (n : ℕ) (v : Compared) (s : ℕ) (h : ℤ) (c : ℕ) : Type 0 where
+  pub full : (v .part h c .full ≡ true) ↔ (n ≤ length (v .levels c))
+  pub counts : (v .part h c .counts ≡ true) ↔ Counts n v s h c
+  pub movedTo : (v .part h c .movedTo ≡ true) ↔ Strongest n v s h c
+  pub waiting : length (v .levels s) < n → (v .part h c .counts ≡ false) × (v .part h c .movedTo ≡ false)
 
 abbrev pub PartRule : Type 0
 PartRule =
     (ks : List Call) (s : ℕ) (h : ℤ) → after idle ks .serving ≡ some s → pos 0 ≤ℤ h → h ≤ℤ pos 6000
-    → (c : ℕ) → TakesPart (ofRecord (afterFrom fresh ks)) s h c
+    → (c : ℕ) → TakesPart (after idle ks .depth) (ofRecord (afterFrom fresh ks)) s h c
+
+-- "The depth, 5 to 31, is given at the start of a watch and stays for its life.": of the record, after every sequence of calls. An accepted
+-- start gives it, and no other call changes it; from the first accepted start on it is 5 to 31, whatever follows; before that the record is
+-- the fresh one, and its depth is 0
+pub record DepthRule : Type 0 where
+  pub given : (ks : List Call) (c d : ℕ) → Accepted (after idle ks) (start c d) → called (afterFrom fresh ks) (start c d) .watch .depth ≡ d
+  pub stays : (ks : List Call) (k : Call) → ((c d : ℕ) → ¬ (k ≡ start c d)) → called (afterFrom fresh ks) k .watch .depth ≡ afterFrom fresh ks .depth
+  pub ever : (ks js : List Call) (s : ℕ) → after idle ks .serving ≡ some s
+      → (5 ≤ afterFrom fresh (ks ++ js) .depth) × (afterFrom fresh (ks ++ js) .depth ≤ 31)
+  pub before : (ks : List Call) → after idle ks .serving ≡ none → afterFrom fresh ks ≡ fresh
+  pub begins : fresh .depth ≡ 0
 
 -- the words for lists in which the plain watch, the record's tests and these claims are written: how often a channel is in a list, the sum
 -- of a list, and the others by the first

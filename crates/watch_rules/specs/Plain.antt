@@ -8,38 +8,40 @@ use lib.IntN.{ℤ}
 use Rattle.refusal.specs.Told.{Told, refused, gives}
 use Rattle.readings_rules.specs.Burst.{BurstResult, heard, missed, burstOf}
 use Rattle.watch_rules.specs.Lists.{mem, is, lastN}
-use Rattle.watch_rules.specs.Limits.{depth}
 use Rattle.watch_rules.specs.Told.{Call, start, newList, move, file, ask, verdict, Given}
 use Rattle.watch_rules.specs.Rules.{View, refusal, answer, unlessRefused}
 
 -- "It holds a serving channel or none, a set of neighbours and, for each of these channels (the ones under watch), all levels filed
--- since it came under watch, oldest first."
+-- since it came under watch, oldest first.", and the depth given at its last accepted start
 pub record Plain : Type 0 where
+  pub depth : ℕ
   pub serving : Option ℕ
   pub neighbour : ℕ → Bool
   pub levels : ℕ → List ℤ
 
--- "It begins idle."
+-- "It begins idle.": nothing was started yet, and the depth is 0
 abbrev pub idle : Plain
-idle = record { serving = none; neighbour = λ c. false; levels = λ c. [] }
+idle = record { depth = 0; serving = none; neighbour = λ c. false; levels = λ c. [] }
 
 -- the serving channel and the neighbours are the ones under watch
 abbrev pub underWatch : Plain → ℕ → Bool
 underWatch p c = is (p .serving) c || p .neighbour c
 
--- "The rules above give the answer, over each channel's last 15 levels, or all if fewer."
+-- "The rules above give the answer, over each channel's last 15 levels, or all if fewer.", the depth for 15
 abbrev pub seen : Plain → View
-seen p = record { serving = p .serving; neighbour = p .neighbour; levels = λ c. lastN depth (p .levels c) }
+seen p = record { depth = p .depth; serving = p .serving; neighbour = p .neighbour; levels = λ c. lastN (p .depth) (p .levels c) }
 
--- "Start: that channel serves, under watch from now, without levels. Nothing else is under watch."
-abbrev pub afterStart : ℕ → Plain
-afterStart c = record { serving = some c; neighbour = λ d. false; levels = λ d. [] }
+-- "Start: that channel serves, under watch from now, without levels. Nothing else is under watch." "The depth .. is
+-- given at the start of a watch and stays for its life."
+abbrev pub afterStart : ℕ → ℕ → Plain
+afterStart c d = record { depth = d; serving = some c; neighbour = λ e. false; levels = λ e. [] }
 
 -- "New list: the neighbours are the set of its channels. One under watch before keeps its levels; any other comes under watch now,
 -- without levels. A dropped one's are gone." A channel is under watch afterwards where it serves or is in the list
 abbrev pub afterNewList : Plain → List ℕ → Plain
 afterNewList p l =
     record {
+      depth = p .depth;
       serving = p .serving;
       neighbour = λ c. mem c l;
       levels = λ c. cond (underWatch p c && (is (p .serving) c || mem c l)) (p .levels c) [];
@@ -49,6 +51,7 @@ afterNewList p l =
 abbrev pub afterMove : Plain → ℕ → Plain
 afterMove p c =
     record {
+      depth = p .depth;
       serving = some c;
       neighbour = λ d. is (p .serving) d || (p .neighbour d && not (eqb c d));
       levels = p .levels;
@@ -59,6 +62,7 @@ afterMove p c =
 abbrev pub afterFile : Plain → ℕ → Told BurstResult → Plain
 afterFile p c (gives (heard level quality)) =
     record {
+      depth = p .depth;
       serving = p .serving;
       neighbour = p .neighbour;
       levels = λ d. cond (eqb c d) (p .levels d ++ level ∷ []) (p .levels d);
@@ -68,7 +72,7 @@ afterFile p c (refused n) = p
 
 -- an accepted call. "Ask, verdict: no change."
 abbrev pub change : Plain → Call → Plain
-change p (start c) = afterStart c
+change p (start c d) = afterStart c d
 change p (newList l) = afterNewList p l
 change p (move c) = afterMove p c
 change p (file c b) = afterFile p c (burstOf b)

@@ -11,21 +11,25 @@ use Rattle.watch_rules.specs.Lists.{timesIn}
 use Rattle.watch_rules.specs.Plain.{Plain}
 use Rattle.watch_rules.specs.Refusals.{Watched}
 
--- "It begins idle.": nothing serves, nothing is under watch
+-- "It begins idle.": nothing serves, nothing is under watch, and no depth was given
 pub record IsIdle (q : Plain) : Type 0 where
+  pub depth : q .depth ≡ 0
   pub serving : q .serving ≡ none
   pub neighbours : (c : ℕ) → q .neighbour c ≡ false
   pub levels : (c : ℕ) → q .levels c ≡ []
 
--- "Start: that channel serves, under watch from now, without levels. Nothing else is under watch."
-pub record Started (c : ℕ) (q : Plain) : Type 0 where
+-- "Start: that channel serves, under watch from now, without levels. Nothing else is under watch." "The depth .. is given at the start of a
+-- watch and stays for its life."
+pub record Started (c n : ℕ) (q : Plain) : Type 0 where
+  pub depth : q .depth ≡ n
   pub serving : q .serving ≡ some c
   pub neighbours : (d : ℕ) → q .neighbour d ≡ false
   pub levels : (d : ℕ) → q .levels d ≡ []
 
 -- "New list: the neighbours are the set of its channels. One under watch before keeps its levels; any other comes under watch now, without
--- levels. A dropped one's are gone."
+-- levels. A dropped one's are gone." "Move and new list keep the depth."
 pub record Listed (p : Plain) (l : List ℕ) (q : Plain) : Type 0 where
+  pub depth : q .depth ≡ p .depth
   pub serving : q .serving ≡ p .serving
   pub neighbours : (c : ℕ) → (q .neighbour c ≡ true) ↔ (0 < timesIn c l)
   pub kept : (c : ℕ) → Watched p c → Watched q c → q .levels c ≡ p .levels c
@@ -34,12 +38,14 @@ pub record Listed (p : Plain) (l : List ℕ) (q : Plain) : Type 0 where
 
 -- "Move: the neighbour and the serving channel change roles. All levels stay."
 pub record Moved (p : Plain) (c : ℕ) (q : Plain) : Type 0 where
+  pub depth : q .depth ≡ p .depth
   pub serving : q .serving ≡ some c
   pub neighbours : (d : ℕ) → (q .neighbour d ≡ true) ↔ ((p .serving ≡ some d) ⊎ ((p .neighbour d ≡ true) × (¬ (d ≡ c))))
   pub levels : (d : ℕ) → q .levels d ≡ p .levels d
 
 -- "File: a heard level's hundredths go to the end of that channel's levels."
 pub record Filed (p : Plain) (c : ℕ) (level : ℤ) (q : Plain) : Type 0 where
+  pub depth : q .depth ≡ p .depth
   pub serving : q .serving ≡ p .serving
   pub neighbours : (d : ℕ) → q .neighbour d ≡ p .neighbour d
   pub newest : q .levels c ≡ p .levels c ++ level ∷ []

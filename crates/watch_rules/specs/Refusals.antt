@@ -1,6 +1,6 @@
 -- Document 01, section Refusal numbers, for the calls of a watch, in its own words: over what the plain watch holds, without the tests
 -- of `Rules`. `Claims.RefusalRule` says that the calls refuse exactly so. How often a channel is in a list is `timesIn`.
-use Prim.Native.Nat.{ℕ, _<_}
+use Prim.Native.Nat.{ℕ, _≤_, _<_}
 use mathlib.Core.Path.{_≡_}
 use mathlib.Core.Logic.{_⊎_}
 use mathlib.Core.Bool.{true, false}
@@ -33,8 +33,11 @@ pub data Refuses (p : Plain) : Call → ℕ → Type 0 where
   -- 7: "a .. hysteresis .. out of range", 0 to 6,000
   hysteresisBelow : (h : ℤ) → h <ℤ pos 0 → Refuses p (verdict h) 7
   hysteresisAbove : (h : ℤ) → pos 6000 <ℤ h → Refuses p (verdict h) 7
+  -- 7: "a depth outside 5 to 31, before 2"
+  depthBelow : (c d : ℕ) → d < 5 → Refuses p (start c d) 7
+  depthAbove : (c d : ℕ) → 31 < d → Refuses p (start c d) 7
   -- 2: "a start channel above 1,087"
-  startAbove : (c : ℕ) → 1087 < c → Refuses p (start c) 2
+  startAbove : (c d : ℕ) → 5 ≤ d → d ≤ 31 → 1087 < c → Refuses p (start c d) 2
   -- 5: a faulty list
   listFaulty : (l : List ℕ) → Faulty p l → Refuses p (newList l) 5
   -- 6: "a filed or asked channel not watched; a move to a channel not in the list; new list or verdict on an idle watch"

@@ -9,7 +9,6 @@ use lib.IntN.{ℤ}
 use Rattle.refusal.specs.Told.{Told, refused, gives}
 use Rattle.readings_rules.specs.Burst.{BurstResult, heard, missed, burstOf}
 use Rattle.watch_rules.specs.Lists.{mem, lastN}
-use Rattle.watch_rules.specs.Limits.{depth}
 use Rattle.watch_rules.specs.Told.{Call, start, newList, move, file, ask, verdict}
 use Rattle.watch_rules.specs.Rules.{View}
 
@@ -39,9 +38,9 @@ abbrev pub rest : List Row → List Row
 rest [] = []
 rest (r ∷ rs) = rs
 
--- what rows show
-abbrev pub shown : List Row → View
-shown rs = record { serving = first rs; neighbour = λ c. mem c (channels (rest rs)); levels = λ c. levelsOf c rs }
+-- what rows show, at a depth
+abbrev pub shown : ℕ → List Row → View
+shown d rs = record { depth = d; serving = first rs; neighbour = λ c. mem c (channels (rest rs)); levels = λ c. levelsOf c rs }
 
 -- these channels, in this order, each with the levels that it had
 abbrev pub relisted : ℕ → List ℕ → List Row → List Row
@@ -62,24 +61,32 @@ abbrev pub moved : ℕ → List Row → List Row
 moved c [] = []
 moved c (r ∷ rs) = relisted c (inPlaceOf c (r .channel) (channels rs)) (r ∷ rs)
 
--- File: a heard level is added as the newest; beyond 15 the oldest goes
-abbrev pub push : ℤ → Row → Row
-push x r = row (r .channel) (lastN depth (r .levels ++ x ∷ []))
+-- File: a heard level is added as the newest; beyond the depth the oldest goes
+abbrev pub push : ℕ → ℤ → Row → Row
+push d x r = row (r .channel) (lastN d (r .levels ++ x ∷ []))
 
-abbrev pub pushAt : ℕ → ℤ → List Row → List Row
-pushAt c x [] = []
-pushAt c x (r ∷ rs) = cond (eqb (r .channel) c) (push x r ∷ rs) (r ∷ pushAt c x rs)
+abbrev pub pushAt : ℕ → ℕ → ℤ → List Row → List Row
+pushAt d c x [] = []
+pushAt d c x (r ∷ rs) = cond (eqb (r .channel) c) (push d x r ∷ rs) (r ∷ pushAt d c x rs)
 
-abbrev pub filedRows : ℕ → Told BurstResult → List Row → List Row
-filedRows c (gives (heard level quality)) rs = pushAt c level rs
-filedRows c (gives missed) rs = rs
-filedRows c (refused n) rs = rs
+abbrev pub filedRows : ℕ → ℕ → Told BurstResult → List Row → List Row
+filedRows d c (gives (heard level quality)) rs = pushAt d c level rs
+filedRows d c (gives missed) rs = rs
+filedRows d c (refused n) rs = rs
 
--- the rows after an accepted call
-abbrev pub changedRows : List Row → Call → List Row
-changedRows rs (start c) = row c [] ∷ []
-changedRows rs (newList l) = listed l rs
-changedRows rs (move c) = moved c rs
-changedRows rs (file c b) = filedRows c (burstOf b) rs
-changedRows rs (ask c) = rs
-changedRows rs (verdict h) = rs
+-- the rows after an accepted call, and the depth
+abbrev pub changedRows : ℕ → List Row → Call → List Row
+changedRows d rs (start c e) = row c [] ∷ []
+changedRows d rs (newList l) = listed l rs
+changedRows d rs (move c) = moved c rs
+changedRows d rs (file c b) = filedRows d c (burstOf b) rs
+changedRows d rs (ask c) = rs
+changedRows d rs (verdict h) = rs
+
+abbrev pub changedDepth : ℕ → Call → ℕ
+changedDepth d (start c e) = e
+changedDepth d (newList l) = d
+changedDepth d (move c) = d
+changedDepth d (file c b) = d
+changedDepth d (ask c) = d
+changedDepth d (verdict h) = d

@@ -1,5 +1,5 @@
 -- Document 01, sections The watch and Refusal numbers: when a call is refused, and what it answers. The rules speak of what a watch
--- shows: who serves, who is a neighbour, and the levels of each channel. So they know no places, and the plain watch shares them.
+-- shows: its depth, who serves, who is a neighbour, and the levels of each channel. So they know no places, and the plain watch shares them.
 use Prim.Native.Nat.{ℕ, zero, suc}
 use mathlib.Core.Bool.{Bool, true, false, not, cond, _&&_, _||_}
 use mathlib.Core.List.{List, [], _∷_}
@@ -14,11 +14,13 @@ use Rattle.refusal.specs.Told.{Told, refused, gives, refusedFor}
 use Rattle.readings_rules.specs.Burst.{BurstResult, burstOf}
 use Rattle.watch_rules.specs.Lists.{distinct, every, is, sum}
 use Rattle.readings_rules.specs.Channels.{channelHighest, channelInRange}
-use Rattle.watch_rules.specs.Limits.{listLimit, hysteresisInRange, depth}
+use Rattle.watch_rules.specs.Limits.{listLimit, hysteresisInRange, depthInRange}
 use Rattle.watch_rules.specs.Told.{Call, start, newList, move, file, ask, verdict, Given, accepted, levels, wait, stay, moveTo}
 
--- what a watch shows: the levels are a channel's last 15, or all if fewer, oldest first; a channel not under watch has none
+-- what a watch shows: the levels are a channel's last ones, as many as the depth or all if fewer, oldest first; a channel not under watch
+-- has none, and an idle watch has depth 0
 pub record View : Type 0 where
+  pub depth : ℕ
   pub serving : Option ℕ
   pub neighbour : ℕ → Bool
   pub levels : ℕ → List ℤ
@@ -50,7 +52,7 @@ burstRefusal (refused n) = some ReadingOutOfRange
 
 -- why a call is refused, if it is, in the order 7, 2, 5, 6, 1; 9 is a matter of the record alone
 abbrev pub refusal : View → Call → Option Refusal
-refusal v (start c) = refuseUnless (channelInRange c) ChannelOutOfRange none
+refusal v (start c d) = refuseUnless (depthInRange d) ParameterOutOfRange (refuseUnless (channelInRange c) ChannelOutOfRange none)
 refusal v (newList l) = refuseUnless (listSound (v .serving) l) ListFaulty (refuseUnless (serves (v .serving)) NotWatched none)
 refusal v (move c) = refuseUnless (v .neighbour c) NotWatched none
 refusal v (file c b) = refuseUnless (watched v c) NotWatched (burstRefusal (burstOf b))
@@ -71,9 +73,9 @@ mean (x ∷ xs) = shrZ (sum (x ∷ xs)) (length (x ∷ xs))
 
 -- ---- verdict
 
--- whether levels are no fewer than 15
-unfoldable pub full : List ℤ → Bool
-full l = leb depth (length l)
+-- whether levels are no fewer than the depth
+unfoldable pub full : ℕ → List ℤ → Bool
+full d l = leb d (length l)
 
 -- the levels of the serving channel; none where none serves
 abbrev pub levelsIf : View → Option ℕ → List ℤ
@@ -83,13 +85,14 @@ levelsIf v (some s) = v .levels s
 abbrev pub servingLevels : View → List ℤ
 servingLevels v = levelsIf v (v .serving)
 
--- whether a channel's sum exceeds the serving sum by more than 15 times the hysteresis
+-- whether a channel's sum exceeds the serving sum by more than the hysteresis times the depth
 abbrev pub exceeds : View → ℤ → ℕ → Bool
-exceeds v h c = ltZ (sum (servingLevels v) +ℤ pos depth *ℤ h) (sum (v .levels c))
+exceeds v h c = ltZ (sum (servingLevels v) +ℤ pos (v .depth) *ℤ h) (sum (v .levels c))
 
--- whether a channel counts at a hysteresis: the serving channel has 15 levels, and it is a neighbour with 15 levels that exceeds
+-- whether a channel counts at a hysteresis: the serving channel has its levels, as many as the depth, and it is a neighbour with as many
+-- that exceeds
 unfoldable pub counts : View → ℤ → ℕ → Bool
-counts v h c = full (servingLevels v) && (v .neighbour c && (full (v .levels c) && exceeds v h c))
+counts v h c = full (v .depth) (servingLevels v) && (v .neighbour c && (full (v .depth) (v .levels c) && exceeds v h c))
 
 -- of the channels below n that pass a test, the one with the greatest sum, the lowest channel number among equals: channel by channel
 -- from 0, a later one is better only where its sum is greater
@@ -109,15 +112,15 @@ abbrev pub stayOrMove : Option ℕ → Given
 stayOrMove none = stay
 stayOrMove (some c) = moveTo c
 
--- wait while the serving channel has fewer than 15 levels; else stay, or move to the best that counts
+-- wait while the serving channel has fewer levels than the depth; else stay, or move to the best that counts
 abbrev pub verdictOf : View → ℤ → Given
-verdictOf v h = cond (full (servingLevels v)) (stayOrMove (target v h)) wait
+verdictOf v h = cond (full (v .depth) (servingLevels v)) (stayOrMove (target v h)) wait
 
 -- ---- answers
 
 -- what an accepted call gives
 abbrev pub granted : View → Call → Given
-granted v (start c) = accepted
+granted v (start c d) = accepted
 granted v (newList l) = accepted
 granted v (move c) = accepted
 granted v (file c b) = accepted

@@ -9,9 +9,10 @@ use Rattle.watch_rules.specs.declared.Handed.{Handed}
 use Rattle.watch_rules.specs.declared.Answer.{Answer}
 use Rattle.watch_rules.specs.declared.Answer.the-variants.{Accepted, Refused, Levels, Wait, Stay, MoveTo}
 
--- a call with its arguments other than the watch: channels, a list of channels, a burst with its floats, a hysteresis with its sign
+-- a call with its arguments other than the watch: channels, a depth, a list of channels, a burst with its floats, a
+-- hysteresis with its sign
 pub data Call : Type 0 where
-  start : ℕ → Call
+  start : ℕ → ℕ → Call
   newList : List ℕ → Call
   move : ℕ → Call
   file : ℕ → Burst → Call

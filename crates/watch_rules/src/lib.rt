@@ -1,10 +1,12 @@
 // The neighbour watch: its record and what its calls answer. Document 01, sections The watch and The plain watch.
 // The rules, the plain watch and demand 3 stand in specs/; the calls stand in the crate `watch`.
-ghost use Rattle.watch_rules.specs.Claims.{Demand3, WellFormedIsReachable, ItFollows, Unchanged, UnformedRule, ListRule, SequenceRule, PlainRule, LevelsRule, RefusalRule, AcceptedRule, AskRule, VerdictRule, PartRule, WordsRule, AnswersTold, AnswersDiffer};
+ghost use Rattle.watch_rules.specs.Claims.{Demand3, WellFormedIsReachable, ItFollows, Unchanged, UnformedRule, ListRule, SequenceRule, PlainRule, LevelsRule, RefusalRule, AcceptedRule, AskRule, VerdictRule, PartRule, DepthRule, WordsRule, AnswersTold, AnswersDiffer};
 use refusal::Refusal;
 
-// How many levels of a channel make a mean and a sum: older ones go.
-pub const DEPTH: usize = 15;
+// How many levels of a channel make a mean and a sum is the depth of a watch, given at its start: older levels go.
+pub const DEPTH_LOWEST: usize = 5;
+
+pub const DEPTH_HIGHEST: usize = 31;
 
 // How many channels a list may have.
 pub const LIST_LIMIT: usize = 6;
@@ -12,25 +14,27 @@ pub const LIST_LIMIT: usize = 6;
 // In hundredths of a dB.
 pub const HYSTERESIS_HIGHEST: i32 = 6000;
 
-// How many levels a track has room for, and how many tracks a watch: the serving channel and a list.
-pub const CAPACITY: usize = 15;
+// How many levels a track has room for, at least the highest depth: with 32 the loops over them have no remainder, and a track no padding at
+// its end. How many tracks a watch has: the serving channel and a list.
+pub const CAPACITY: usize = 32;
 
 pub const ROOM: usize = LIST_LIMIT + 1;
 
-// A channel under watch with its levels in hundredths, oldest first. What lies beyond `count` is 0.
+// A channel under watch with its levels in hundredths, oldest first: 16 bits hold their range. What lies beyond `count` is 0.
 #[repr(C)]
 pub struct Track {
     pub channel: u16,
     pub count: usize,
-    pub levels: [i32; CAPACITY],
+    pub levels: [i16; CAPACITY],
 }
 
 // The first `watched` tracks are in use: the serving channel, then its list in the network's order. The others are all zero. An idle
-// watch uses none.
+// watch uses none, and its depth is 0.
 #[repr(C)]
 pub struct Watch {
     pub watched: usize,
     pub tracks: [Track; ROOM],
+    pub depth: usize,
 }
 
 // What a call answers.
@@ -65,6 +69,7 @@ pub fn claimed()
     ensures ask { λ _. ⌜ AskRule ⌝ }
     ensures verdict { λ _. ⌜ VerdictRule ⌝ }
     ensures part { λ _. ⌜ PartRule ⌝ }
+    ensures depth { λ _. ⌜ DepthRule ⌝ }
     ensures words { λ _. ⌜ WordsRule ⌝ }
     ensures told { λ _. ⌜ AnswersTold ⌝ }
     ensures differ { λ _. ⌜ AnswersDiffer ⌝ }

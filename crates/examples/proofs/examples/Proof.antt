@@ -4,7 +4,6 @@ use mathlib.Core.Path.{refl}
 use lib.Ieee.{ofBits, ofFields}
 use Rattle.readings_rules.specs.Hundredths.{within, hundredthsOf, converted}
 use Rattle.readings_rules.specs.Rounding.{nearestLower}
-use Rattle.watch_rules.specs.Limits.{depth}
 use Rattle.watch_rules.specs.Rules.{full, counts, best, target, answer}
 use Rattle.watch_rules.specs.Record.{wellFormed, called}
 use Rattle.power_rules.specs.PowerSteps.{broughtInto, panUse, gain, thousandths, parToSend, panBasicAfter, parSaveAfter, increaseAfter, panToSend}
@@ -14,8 +13,8 @@ use Rattle.examples.proofs.examples.Statement.{statement}
 use Rattle.examples.proofs.examples.Tie as tie
 
 returns : tie.Need-returns
-unfolding ofBits ofFields converted within hundredthsOf nearestLower depth full counts best target answer wellFormed called started sending stepped broughtInto panUse gain thousandths parToSend panBasicAfter parSaveAfter increaseAfter panToSend
-returns c = (refl, (refl, (refl, (refl, (refl, (refl, (reads, (camps, (narrow, (silent, (refl, (refl, (refl, (refl, (refl, (refl, (refl, (refl, (refl, (refl, tt))))))))))))))))))))
+unfolding ofBits ofFields converted within hundredthsOf nearestLower full counts best target answer wellFormed called started sending stepped broughtInto panUse gain thousandths parToSend panBasicAfter parSaveAfter increaseAfter panToSend
+returns c = (refl, (refl, (refl, (refl, (refl, (refl, (reads, (camps, (narrow, (silent, (refl, (refl, (refl, (refl, (refl, (refl, (refl, (refl, (refl, (refl, (refl, (refl, (refl, (refl, (refl, (refl, (refl, (refl, tt))))))))))))))))))))))))))))
 
 pub examples-spec : {M : Type 1} → statement M
 examples-spec = tie.close (tie.spec returns)

@@ -11,7 +11,7 @@ use Rattle.watch_rules.specs.Record.{called}
 use Rattle.session_words.specs.Words.{wordsOf}
 use Rattle.session_calls.specs.Table.{rowAt}
 use Rattle.session_calls.proofs.Tables.{beyond, past}
-use Rattle.session_watch.specs.Rows.{watchRows}
+use Rattle.session_watch.specs.Rows.{watchRows, recordedDepth}
 use borrow.Author.Needs.{needs, sfits-of}
 use Rattle.session_watch.proofs.watch_row.Statement.{statement}
 use Rattle.session_watch.proofs.watch_row.Tie as tie
@@ -42,6 +42,14 @@ returns-4 c =
     let z = c .before .int-at in
     c .verdict .ensures ∙ ap (λ h. makes (k .before) (verdict h)) (toZ-ofZ w32 (z .result) (sfits-of (z .ok)) ∙ z .ensures) ∙ is (k .before) (k .match .keys4)
 
+returns-6 : tie.Need-returns-6
+unfolding watchRows
+returns-6 c =
+    let b = c .before in
+    let k = b .before .before in
+    c .start2 .ensures ∙ ap₂ (λ n d. makes (k .before) (start n d)) (b .before .channel-at5 .ensures) (b .byte-at .ensures)
+    ∙ is (k .before) (k .match .keys6)
+
 pub watch-row-spec : {M : Type 1} → statement M
 unfolding watchRows
 watch-row-spec =
@@ -52,6 +60,7 @@ watch-row-spec =
     (λ c κs. search needs) (λ c κs. search needs)
     (λ c κs. search needs) (λ c κs. search needs)
     (λ c κs. search needs) (λ c κs. search needs)
+    (λ c κs. search needs) (λ c κs. search needs) (λ c. search needs) (λ c κs. search needs)
     (λ c κs. search needs)
     (λ c κs. search needs) (λ c κs. search needs)
     (λ c κs. search needs)
@@ -61,11 +70,12 @@ watch-row-spec =
     (λ c. let k = c .before .before in c .ask .ensures ∙ ap (λ n. makes (k .before) (ask n)) (c .before .channel-at3 .ensures)
     ∙ is (k .before) (k .match .keys3))
     returns-4
-    (λ c. let k = c .before .before in c .start .ensures ∙ ap (λ n. makes (k .before) (start n)) (c .before .channel-at4 .ensures)
+    (λ c. let k = c .before .before in c .start .ensures ∙ ap (λ n. makes (k .before) (start n recordedDepth)) (c .before .channel-at4 .ensures)
     ∙ is (k .before) (k .match .keys5))
-    (λ c. c .new-list .ensures ∙ is (c .before .before) (c .before .match .keys6))
-    (λ c. let k = c .before .before in c .move-to .ensures ∙ ap (λ n. makes (k .before) (move n)) (c .before .channel-at5 .ensures)
-    ∙ is (k .before) (k .match .keys7))
+    returns-6
+    (λ c. c .new-list .ensures ∙ is (c .before .before) (c .before .match .keys7))
+    (λ c. let k = c .before .before in c .move-to .ensures ∙ ap (λ n. makes (k .before) (move n)) (c .before .channel-at6 .ensures)
+    ∙ is (k .before) (k .match .keys8))
     (λ c.
     let a = c .before .before .before .args in
     c .verdict2 .ensures

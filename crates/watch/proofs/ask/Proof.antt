@@ -14,13 +14,13 @@ use Rattle.refusal.specs.declared.Refusal.the-variants.{NotWatched}
 use Rattle.refusal.specs.Told.{gives}
 use Rattle.watch_rules.specs.declared.Track.{Track}
 use Rattle.watch_rules.specs.declared.Watch.{Watch}
-use Rattle.watch_rules.specs.Limits.{room}
+use Rattle.watch_rules.specs.Limits.{capacity, room}
 use Rattle.watch_rules.specs.Told.{ask, levels}
 use Rattle.watch_rules.specs.Rules.{mean}
 use Rattle.watch_rules.specs.Record.{rowOf, trackFine, wellFormed, called}
-use Rattle.watch_rules.proofs.Depth.{depth-is}
-use Rattle.watch_rules.proofs.Encode.{read-record, track-count, track-levels}
-use Rattle.watch_rules.proofs.Calls.{called-unformed, called-refused, called-granted, refuse-now, refuse-later}
+use Rattle.watch_rules.proofs.Depth.{depth-within}
+use Rattle.watch_rules.proofs.Encode.{fine-within, read-record, track-count, track-levels}
+use Rattle.watch_rules.proofs.Calls.{called-unformed, called-refused, called-granted, refuse-now, refuse-later, formed-depth}
 use Rattle.watch_record.specs.Code.{nothing, back}
 use Rattle.watch_list.proofs.Watched.{found-place, found-below}
 use Rattle.watch.proofs.Found.{place-watched, place-unwatched, found-fine, found-levels}
@@ -73,14 +73,20 @@ mul-t c = let h = below c in omega arith
 array-copy-out-t : tie.Need-array-copy-out-t
 array-copy-out-t c = below c
 
-fine : (c : tie.Else2) → trackFine (asked c) ≡ true
+fine : (c : tie.Else2) → trackFine (entry c .args .w .depth) (asked c) ≡ true
 fine c = found-fine (entry c .args .w) (entry c .args .channel) (formed (c .before .before .before)) (c .before .place .ensures) (c .if2 .left)
 
+-- there is room for the depth
+fine-in-room : (c : tie.Else2) → trackFine capacity (asked c) ≡ true
+fine-in-room c =
+    let w = entry c .args .w in
+    fine-within (w .depth) capacity (asked c) (depth-within (w .watched) (w .depth) (formed-depth w (formed (c .before .before .before)))) (fine c)
+
 mean-of-requires : tie.Need-mean-of-requires
-mean-of-requires c κs = fine (c .before)
+mean-of-requires c κs = fine-in-room (c .before)
 
 cast-count : tie.Need-cast-count
-cast-count c = let e2 = c .before .before .before in record { fits = omega (arith, track-count (asked e2) (fine e2), depth-is) }
+cast-count c = let e2 = c .before .before .before in record { fits = omega (arith, track-count capacity (asked e2) (fine-in-room e2)) }
 
 answered-requires : tie.Need-answered-requires
 answered-requires c κs = search needs
@@ -94,7 +100,7 @@ granted c =
     let there = place-watched (a .w) (a .channel) f (found-place (a .w) (a .channel) f p (c .if2 .left)) in
     called-granted (a .w) (ask (a .channel)) f (refuse-later NotWatched there refl)
     ∙ ap₂ (λ (w : Watch) (k : List ℤ). back w (gives (levels (length k) (mean k)))) (read-record (a .w) f .back) (found-levels (a .w) (a .channel) f p (c .if2 .left))
-    ∙ ap (λ (n : ℕ). back (a .w) (gives (levels n (mean (rowOf (asked c) .levels))))) (track-levels (asked c) (fine c) .counted)
+    ∙ ap (λ (n : ℕ). back (a .w) (gives (levels n (mean (rowOf (asked c) .levels))))) (track-levels (entry c .args .w .depth) (asked c) (fine c) .counted)
 
 returns-3 : tie.Need-returns-3
 returns-3 c =

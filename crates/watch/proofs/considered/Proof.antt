@@ -7,10 +7,9 @@ use borrow.Author.Needs.{needs}
 use borrow.Author.Tests.{le-leb, lt-leb, lt-ltb, le-ltb, leb-true, leb-false, ltb-true, ltb-false}
 use lib.Dec.{leb, ltb}
 use lib.ListN.{length}
-use Rattle.watch_rules.specs.Limits.{depth}
+use Rattle.watch_rules.specs.Limits.{capacity}
 use Rattle.watch_rules.specs.Rows.{Row}
 use Rattle.watch_rules.specs.Record.{rowOf}
-use Rattle.watch_rules.proofs.Depth.{depth-is}
 use Rattle.watch_rules.proofs.Laws.{byCase, or-true-right, or-false-left, or-false-right}
 use Rattle.watch_rules.proofs.Encode.{track-levels}
 use Rattle.watch.specs.declared.Pick.{Pick}
@@ -19,22 +18,23 @@ use Rattle.watch.proofs.Sums.{track-below-most}
 use Rattle.watch.proofs.considered.Statement.{statement}
 use Rattle.watch.proofs.considered.Tie as tie
 
-module _ (limit margin : ℕ) (p : Pick) (r : Row) where
-  by-test : (b : Bool) → able limit margin (r .levels) ≡ b → consider limit margin p r ≡ cond b (betterOf p (pickOf (r .channel) (allBelow (r .levels)))) p
+module _ (depth limit margin : ℕ) (p : Pick) (r : Row) where
+  by-test : (b : Bool) → able depth limit margin (r .levels) ≡ b
+      → consider depth limit margin p r ≡ cond b (betterOf p (pickOf (r .channel) (allBelow (r .levels)))) p
   by-test b e = ap (λ (x : Bool). cond x (betterOf p (pickOf (r .channel) (allBelow (r .levels)))) p) e
 
-  too-few : length (r .levels) < depth → consider limit margin p r ≡ p
+  too-few : length (r .levels) < depth → consider depth limit margin p r ≡ p
   too-few h = by-test false (ap (λ (b : Bool). b && ltb (allBelow (r .levels) + margin) limit) (lt-leb depth (length (r .levels)) h))
 
   module _ (enough : depth ≤ length (r .levels)) where
-    too-far : limit ≤ allBelow (r .levels) + margin → consider limit margin p r ≡ p
+    too-far : limit ≤ allBelow (r .levels) + margin → consider depth limit margin p r ≡ p
     too-far h = by-test false (ap₂ _&&_ (le-leb depth (length (r .levels)) enough) (le-ltb (allBelow (r .levels) + margin) limit h))
 
-    near : allBelow (r .levels) + margin < limit → consider limit margin p r ≡ betterOf p (pickOf (r .channel) (allBelow (r .levels)))
+    near : allBelow (r .levels) + margin < limit → consider depth limit margin p r ≡ betterOf p (pickOf (r .channel) (allBelow (r .levels)))
     near h = by-test true (ap₂ _&&_ (le-leb depth (length (r .levels)) enough) (lt-ltb (allBelow (r .levels) + margin) limit h))
 
 counted : (c : tie.Start) → length (rowOf (c .args .t) .levels) ≡ c .args .t .count
-counted c = track-levels (c .args .t) (c .pre .0) .counted
+counted c = track-levels capacity (c .args .t) (c .pre .0) .counted
 
 total-requires : tie.Need-total-requires
 total-requires c κs = search needs
@@ -42,37 +42,36 @@ total-requires c κs = search needs
 add-if1 : tie.Need-add-if1
 add-if1 c =
     let s = c .before .before in
-    record { fits = omega (arith, c .before .total .ensures, track-below-most (s .args .t) (s .pre .0), s .pre .1, depth-is) }
+    record { fits = omega (arith, c .before .total .ensures, track-below-most (s .args .t) (s .pre .0), s .pre .1) }
 
 returns : tie.Need-returns
-unfolding depth
 returns c =
     let s = c .before .before .before in
     let a = s .args in
     let sum = c .before .before .total .result in
     let e = c .before .before .total .ensures in
-    byCase (ltb (a .t .count) depth)
-    (λ q. sym (too-few (a .limit) (a .margin) (a .p) (rowOf (a .t)) (omega (arith, counted s, ltb-true (a .t .count) depth q))))
+    byCase (ltb (a .t .count) (a .depth))
+    (λ q. sym (too-few (a .depth) (a .limit) (a .margin) (a .p) (rowOf (a .t)) (omega (arith, counted s, ltb-true (a .t .count) (a .depth) q))))
     (λ q.
-    let far : a .limit ≤ sum + a .margin = leb-true (a .limit) (sum + a .margin) (or-true-right (ltb (a .t .count) depth) (leb (a .limit) (sum + a .margin)) (c .if1 .taken) q) in
-    sym (too-far (a .limit) (a .margin) (a .p) (rowOf (a .t)) (omega (arith, counted s, ltb-false (a .t .count) depth q)) (omega arith)))
+    let far : a .limit ≤ sum + a .margin =
+    leb-true (a .limit) (sum + a .margin) (or-true-right (ltb (a .t .count) (a .depth)) (leb (a .limit) (sum + a .margin)) (c .if1 .taken) q) in
+    sym (too-far (a .depth) (a .limit) (a .margin) (a .p) (rowOf (a .t)) (omega (arith, counted s, ltb-false (a .t .count) (a .depth) q)) (omega arith)))
 
 better-requires : tie.Need-better-requires
 better-requires c κs = search needs
 
 returns-2 : tie.Need-returns-2
-unfolding depth
 returns-2 c =
     let e1 = c .before in
     let s = e1 .before .before .before in
     let a = s .args in
     let sum = e1 .before .before .total .result in
     let e = e1 .before .before .total .ensures in
-    let enough = ltb-false (a .t .count) depth (or-false-left (ltb (a .t .count) depth) (leb (a .limit) (sum + a .margin)) (e1 .if1 .left)) in
-    let close = leb-false (a .limit) (sum + a .margin) (or-false-right (ltb (a .t .count) depth) (leb (a .limit) (sum + a .margin)) (e1 .if1 .left)) in
+    let enough = ltb-false (a .t .count) (a .depth) (or-false-left (ltb (a .t .count) (a .depth)) (leb (a .limit) (sum + a .margin)) (e1 .if1 .left)) in
+    let close = leb-false (a .limit) (sum + a .margin) (or-false-right (ltb (a .t .count) (a .depth)) (leb (a .limit) (sum + a .margin)) (e1 .if1 .left)) in
     c .better .ensures
     ∙ ap (λ (n : ℕ). betterOf (a .p) (pickOf (a .t .channel) n)) e
-    ∙ sym (near (a .limit) (a .margin) (a .p) (rowOf (a .t)) (omega (arith, counted s)) (omega arith))
+    ∙ sym (near (a .depth) (a .limit) (a .margin) (a .p) (rowOf (a .t)) (omega (arith, counted s)) (omega arith))
 
 pub considered-spec : {M : Type 1} → statement M
 considered-spec = tie.close (tie.spec total-requires add-if1 returns better-requires returns-2)

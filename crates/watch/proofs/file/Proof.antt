@@ -1,25 +1,30 @@
 -- The readings' contract says what the burst is in hundredths; a heard level goes to the track at the channel's place.
 use Prim.Native.Nat.{ℕ, _<_}
-use mathlib.Core.Path.{_≡_, sym, ap, _∙_}
+use mathlib.Core.Path.{_≡_, sym, ap, _∙_, subst}
 use mathlib.Core.Bool.{true}
 use mathlib.Core.Option.{some}
+use native.Mathlib.Omega.{arith}
 use borrow.Author.Needs.{needs}
 use borrow.Author.Tests.{not-true, not-false}
 use lib.IntN.{ℤ}
 use lib.ListN.{getD}
+use mir.Syntax.{w32}
+use mir.Val.{SFits}
 use mir.Facts.{toZ-ofZ}
 use Rattle.refusal.specs.declared.Refusal.the-variants.{NotWatched, ReadingOutOfRange}
 use Rattle.refusal.specs.Told.{Told, gives, refused}
-use Rattle.readings_rules.specs.Burst.{BurstResult, heard, missed, burstOf}
+use Rattle.readings_rules.specs.Ranges.{levelInRange}
+use Rattle.readings_rules.specs.Burst.{BurstResult, heard, missed, burstOf, InRange}
 use Rattle.readings_rules.specs.Told.{toldBurst}
 use Rattle.watch_rules.specs.declared.Watch.{Watch}
-use Rattle.watch_rules.specs.Limits.{room}
+use Rattle.watch_rules.specs.Limits.{depthInRange, room}
 use Rattle.watch_rules.specs.Told.{file, accepted}
 use Rattle.watch_rules.specs.Rules.{watched, burstRefusal}
-use Rattle.watch_rules.specs.Rows.{push, shown, filedRows}
-use Rattle.watch_rules.specs.Record.{rows, rowOf, trackOf, recordOf, trackFine, wellFormed, called}
+use Rattle.watch_rules.specs.Rows.{push, filedRows}
+use Rattle.watch_rules.specs.Record.{rows, viewOf, rowOf, trackOf, recordOf, trackFine, wellFormed, called}
+use Rattle.watch_rules.proofs.Depth.{depth-used}
 use Rattle.watch_rules.proofs.Encode.{read-record}
-use Rattle.watch_rules.proofs.Calls.{called-unformed, called-refused, called-granted, refuse-now, refuse-later}
+use Rattle.watch_rules.proofs.Calls.{called-unformed, called-refused, called-granted, refuse-now, refuse-later, formed-depth}
 use Rattle.watch_record.specs.Code.{nothing, back}
 use Rattle.watch_list.proofs.Watched.{found-place, found-below}
 use Rattle.watch.specs.Code.{withTrack}
@@ -41,13 +46,20 @@ formed-there c = formed (c .before .before .before)
 below : (c : tie.Else2) → c .before .place .result < room
 below c = found-below (entry c .args .w) (entry c .args .channel) (formed-there c) (c .before .place .ensures) (c .if2 .left)
 
-is-watched : (c : tie.Else2) → watched (shown (rows (entry c .args .w))) (entry c .args .channel) ≡ true
+is-watched : (c : tie.Else2) → watched (viewOf (entry c .args .w)) (entry c .args .channel) ≡ true
 is-watched c =
     let a = entry c .args in
     place-watched (a .w) (a .channel) (formed-there c) (found-place (a .w) (a .channel) (formed-there c) (c .before .place .ensures) (c .if2 .left))
 
-fine : (c : tie.Else2) → trackFine (getD (entry c .args .w .tracks) (c .before .place .result) nothing) ≡ true
+fine : (c : tie.Else2) → trackFine (entry c .args .w .depth) (getD (entry c .args .w .tracks) (c .before .place .result) nothing) ≡ true
 fine c = found-fine (entry c .args .w) (entry c .args .channel) (formed-there c) (c .before .place .ensures) (c .if2 .left)
+
+-- a channel was found, so that the depth is in range
+deep : (c : tie.Else2) → depthInRange (entry c .args .w .depth) ≡ true
+deep c =
+    let w = entry c .args .w in
+    let h = found-place w (entry c .args .channel) (formed-there c) (c .before .place .ensures) (c .if2 .left) in
+    depth-used (w .watched) (w .depth) (omega arith) (formed-depth w (formed-there c))
 
 well-formed-requires : tie.Need-well-formed-requires
 well-formed-requires c κs = search needs
@@ -97,8 +109,16 @@ enum-known-r c = search needs
 abbrev found-at : tie.After-struct-told → tie.Else2
 found-at c = c .before .before .before .before .before
 
+-- the readings promise the range of a heard level
+in-range : (c : tie.After-struct-told) → levelInRange (c .before .before .r .given .0 .0 .level) ≡ true
+in-range c =
+    let heard-there = c .before .before in
+    subst InRange (ap toldBurst (heard-there .r .given .1)) (heard-there .before .before .burst-to-hundredths .ensures .1) .0
+
 with-level-requires : tie.Need-with-level-requires
-with-level-requires c κs = (below (found-at c), fine (found-at c))
+with-level-requires c κs =
+    let fits : SFits w32 (c .before .before .r .given .0 .0 .level) = record { sfits = c .struct-told .given .0 .1 } in
+    (below (found-at c), fine (found-at c), deep (found-at c), ap levelInRange (toZ-ofZ fits) ∙ in-range c)
 
 answered-requires-2 : tie.Need-answered-requires-2
 answered-requires-2 c κs = search needs
@@ -106,11 +126,12 @@ answered-requires-2 c κs = search needs
 -- what is granted of a burst that is not refused
 granted : (c : tie.Else2) (b : BurstResult) → burstOf (entry c .args .burst) ≡ gives b
     → called (entry c .args .w) (file (entry c .args .channel) (entry c .args .burst))
-    ≡ back (recordOf (filedRows (entry c .args .channel) (gives b) (rows (entry c .args .w)))) (gives accepted)
+    ≡ back (recordOf (entry c .args .w .depth)
+    (filedRows (entry c .args .w .depth) (entry c .args .channel) (gives b) (rows (entry c .args .w)))) (gives accepted)
 granted c b e =
     let a = entry c .args in
     called-granted (a .w) (file (a .channel) (a .burst)) (formed-there c) (refuse-later NotWatched (is-watched c) (ap burstRefusal e))
-    ∙ ap (λ (t : Told BurstResult). back (recordOf (filedRows (a .channel) t (rows (a .w)))) (gives accepted)) e
+    ∙ ap (λ (t : Told BurstResult). back (recordOf (a .w .depth) (filedRows (a .w .depth) (a .channel) t (rows (a .w)))) (gives accepted)) e
 
 returns-3 : tie.Need-returns-3
 returns-3 c =
@@ -142,7 +163,7 @@ returns-5 c =
     let f = formed-there e2 in
     let p = e2 .before .place .ensures in
     let there = found-place (a .w) (a .channel) f p (e2 .if2 .left) in
-    let with-newest : ℕ → ℤ → Watch = λ i y. withTrack (a .w) i (trackOf (push y (rowOf (getD (a .w .tracks) i nothing)))) in
+    let with-newest : ℕ → ℤ → Watch = λ i y. withTrack (a .w) i (trackOf (push (a .w .depth) y (rowOf (getD (a .w .tracks) i nothing)))) in
     let b : burstOf (a .burst) ≡ gives (heard (r .level) (r .quality)) =
     sym (kt .before .before .before .burst-to-hundredths .ensures .0) ∙ ap toldBurst (kt .before .r .given .1) in
     c .answered2 .ensures

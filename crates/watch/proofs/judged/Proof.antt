@@ -5,19 +5,20 @@ use mathlib.Core.Bool.{Bool, true, false, cond}
 use mathlib.Core.List.{map}
 use mathlib.Core.Option.{none, some}
 use native.Mathlib.Omega.{arith}
+use native.Mathlib.Nat.{mul-le-mul}
 use borrow.Author.Needs.{needs}
 use borrow.Author.Tests.{not-true, not-false}
 use lib.IntN.{pos}
 use lib.ListN.{take, drop}
 use Rattle.refusal.specs.Told.{gives}
-use Rattle.watch_rules.specs.Limits.{depth}
+use Rattle.watch_rules.specs.Limits.{capacity}
 use Rattle.watch_rules.specs.Rules.{stayOrMove, verdictOf}
-use Rattle.watch_rules.specs.Rows.{shown}
-use Rattle.watch_rules.specs.Record.{rowOf, rows}
-use Rattle.watch_rules.proofs.Depth.{depth-is}
-use Rattle.watch_rules.proofs.Calls.{formed-tracks, formed-short}
+use Rattle.watch_rules.specs.Record.{viewOf, rowOf}
+use Rattle.watch_rules.proofs.Depth.{depth-within}
+use Rattle.watch_rules.proofs.Encode.{fine-within}
+use Rattle.watch_rules.proofs.Calls.{formed-tracks, formed-short, formed-depth}
 use Rattle.watch.specs.declared.Pick.{Pick}
-use Rattle.watch.specs.Code.{allBelow, scan, nobody, chosen}
+use Rattle.watch.specs.Code.{marginMost, allBelow, scan, nobody, chosen}
 use Rattle.watch.proofs.Search.{server, server-fine, watch-waits, watch-settled}
 use Rattle.watch.proofs.judged.Statement.{statement}
 use Rattle.watch.proofs.judged.Tie as tie
@@ -35,24 +36,32 @@ module _ (c : tie.After-best) where
   start = entry (c .before .before)
 
   found : c .best .result
-      ≡ scan (allBelow (rowOf (server (start .args .w) (start .pre .0) (active start)) .levels)) (depth * start .args .hysteresis) nobody
+      ≡ scan (start .args .w .depth) (allBelow (rowOf (server (start .args .w) (start .pre .0) (active start)) .levels))
+      (start .args .w .depth * start .args .hysteresis) nobody
       (map rowOf (drop 1 (take (start .args .w .watched) (start .args .w .tracks))))
-  unfolding depth
   found =
       let w = start .args .w in
       c .best .ensures
-      ∙ ap (λ (l : ℕ). scan l (depth * start .args .hysteresis) nobody (map rowOf (drop 1 (take (w .watched) (w .tracks))))) (c .before .total .ensures)
+      ∙ ap (λ (l : ℕ). scan (w .depth) l (w .depth * start .args .hysteresis) nobody (map rowOf (drop 1 (take (w .watched) (w .tracks)))))
+      (c .before .total .ensures)
 
   -- that is the answer, be one found or not
   by-found : (b : Bool) → c .best .result .found ≡ b
-      → gives (stayOrMove (cond b (some (c .best .result .channel)) none)) ≡ gives (verdictOf (shown (rows (start .args .w))) (pos (start .args .hysteresis)))
+      → gives (stayOrMove (cond b (some (c .best .result .channel)) none)) ≡ gives (verdictOf (viewOf (start .args .w)) (pos (start .args .hysteresis)))
   by-found b e =
       let a = start .args in
-      let enough : depth ≤ server (a .w) (start .pre .0) (active start) .count = omega (arith, c .before .before .if1 .left, depth-is) in
+      let enough : a .w .depth ≤ server (a .w) (start .pre .0) (active start) .count = omega (arith, c .before .before .if1 .left) in
       ap gives
       (sym (watch-settled (a .w) (start .pre .0) (active start) (a .hysteresis) enough
       ∙ ap (λ (p : Pick). stayOrMove (chosen p)) (sym found)
       ∙ ap (λ (x : Bool). stayOrMove (cond x (some (c .best .result .channel)) none)) e))
+
+-- there is room for the depth
+within : (c : tie.Start) → c .args .w .depth ≤ capacity
+within c = depth-within (c .args .w .watched) (c .args .w .depth) (formed-depth (c .args .w) (c .pre .0))
+
+most : (c : tie.Start) → c .args .w .depth * c .args .hysteresis ≤ marginMost
+most c = mul-le-mul (within c) (c .pre .2)
 
 array-copy-out-s : tie.Need-array-copy-out-s
 array-copy-out-s c = search needs
@@ -60,22 +69,24 @@ array-copy-out-s c = search needs
 returns : tie.Need-returns
 returns c =
     let s = c .before .before .before .before in
-    let few : server (s .args .w) (s .pre .0) (active s) .count < depth = omega (arith, c .if1 .taken, depth-is) in
+    let few : server (s .args .w) (s .pre .0) (active s) .count < s .args .w .depth = omega (arith, c .if1 .taken) in
     ap gives (sym (watch-waits (s .args .w) (s .pre .0) (active s) (pos (s .args .hysteresis)) few))
 
 cast-margin : tie.Need-cast-margin
-cast-margin c = search needs
+cast-margin c = let h = within (entry c) in record { fits = omega arith }
 
 mul-margin : tie.Need-mul-margin
-mul-margin c = record { fits = omega (arith, entry c .pre .2) }
+mul-margin c = let h = most (entry c) in record { fits = omega arith }
 
 total-requires : tie.Need-total-requires
-total-requires c κs = server-fine (entry c .args .w) (entry c .pre .0) (active (entry c))
+total-requires c κs =
+    let s = entry c in
+    fine-within (s .args .w .depth) capacity (server (s .args .w) (s .pre .0) (active s)) (within s) (server-fine (s .args .w) (s .pre .0) (active s))
 
 best-requires : tie.Need-best-requires
 best-requires c κs =
     let s = entry (c .before) in
-    (s .pre .1, formed-short (s .args .w) (s .pre .0), formed-tracks (s .args .w) (s .pre .0), omega (arith, s .pre .2, depth-is))
+    (s .pre .1, formed-short (s .args .w) (s .pre .0), formed-tracks (s .args .w) (s .pre .0), most s, within s)
 
 returns-2 : tie.Need-returns-2
 returns-2 c = by-found (c .before .before) false (not-true _ (c .if2 .taken))

@@ -8,7 +8,6 @@ use mir.Syntax.{w32}
 use mir.Val.{SFits, toZ, ofZ}
 use mir.Facts.{toZ-ofZ}
 use Rattle.readings_rules.specs.Ranges.{levelHighest}
-use Rattle.watch_rules.proofs.Depth.{depth-is}
 use Rattle.watch.specs.Code.{meanBelow}
 use Rattle.watch.proofs.Sums.{rounded-small, distance-fits, below-top-fits}
 use Rattle.watch.proofs.mean_below.Statement.{statement}
@@ -31,7 +30,7 @@ sub-result : tie.Need-sub-result
 sub-result c = search needs
 
 add-result : tie.Need-add-result
-add-result c = record { fits = omega (arith, c .pre .0, c .pre .2, depth-is) }
+add-result c = record { fits = omega (arith, c .pre .0, c .pre .2) }
 
 div-result : tie.Need-div-result
 div-result c = search needs

@@ -4,7 +4,7 @@ use mathlib.Core.Path.{_≡_, sym, ap, _∙_}
 use native.Mathlib.Omega.{arith}
 use borrow.Author.Needs.{needs}
 use mir.Facts.{toZ-ofZ}
-use Rattle.watch_rules.proofs.Depth.{depth-is}
+use Rattle.watch_rules.specs.Limits.{capacity}
 use Rattle.watch_rules.proofs.Encode.{track-count}
 use Rattle.watch.specs.Code.{meanBelow}
 use Rattle.watch.proofs.Sums.{track-below-most, track-mean, track-no-mean}
@@ -18,14 +18,14 @@ total-requires : tie.Need-total-requires
 total-requires c κs = search needs
 
 cast-mean-below : tie.Need-cast-mean-below
-cast-mean-below c = record { fits = omega (arith, track-count (c .before .before .args .t) (c .before .before .pre), depth-is) }
+cast-mean-below c = record { fits = omega (arith, track-count capacity (c .before .before .args .t) (c .before .before .pre)) }
 
 mean-below-requires : tie.Need-mean-below-requires
 mean-below-requires c κs =
     let s = c .before .before in
     let z : s .args .t .count ≡ 0 → ⊥ = c .before .if1 .left in
     let e = c .total .ensures in
-    (omega (arith, track-below-most (s .args .t) (s .pre)), omega arith, track-count (s .args .t) (s .pre))
+    (omega (arith, track-below-most (s .args .t) (s .pre)), omega arith, track-count capacity (s .args .t) (s .pre))
 
 returns-2 : tie.Need-returns-2
 returns-2 c =

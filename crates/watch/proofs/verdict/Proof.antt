@@ -19,8 +19,8 @@ use Rattle.watch_rules.specs.declared.Watch.{Watch}
 use Rattle.watch_rules.specs.Limits.{hysteresisHighest, hysteresisInRange}
 use Rattle.watch_rules.specs.Told.{verdict}
 use Rattle.watch_rules.specs.Rules.{serves, verdictOf}
-use Rattle.watch_rules.specs.Rows.{first, shown}
-use Rattle.watch_rules.specs.Record.{rows, wellFormed, called}
+use Rattle.watch_rules.specs.Rows.{first}
+use Rattle.watch_rules.specs.Record.{rows, viewOf, wellFormed, called}
 use Rattle.watch_rules.proofs.Laws.{clash, and-right}
 use Rattle.watch_rules.proofs.Encode.{read-record}
 use Rattle.watch_rules.proofs.Calls.{called-unformed, called-refused, called-granted, refuse-now, refuse-later}
@@ -66,13 +66,14 @@ serving c = serving-is (c .before .before .args .w) (formed c)
 
 -- ---- what is granted
 
-granted : (c : tie.Else3) → called (entry c .args .w) (verdict (entry c .args .hysteresis)) ≡ back (entry c .args .w) (gives (verdictOf (shown (rows (entry c .args .w))) (entry c .args .hysteresis)))
+granted : (c : tie.Else3) → called (entry c .args .w) (verdict (entry c .args .hysteresis))
+    ≡ back (entry c .args .w) (gives (verdictOf (viewOf (entry c .args .w)) (entry c .args .hysteresis)))
 granted c =
     let a = entry c .args in
     called-granted (a .w) (verdict (a .hysteresis)) (formed-there c)
     (refuse-later ParameterOutOfRange (in-range (c .before .before))
     (refuse-later NotWatched (ap serves (serving (c .before .before .before .before)) ∙ serving-some (a .w .watched) (getD (a .w .tracks) 0 nothing .channel) (c .if3 .left)) refl))
-    ∙ ap (λ (w : Watch). back w (gives (verdictOf (shown (rows (a .w))) (a .hysteresis)))) (read-record (a .w) (formed-there c) .back)
+    ∙ ap (λ (w : Watch). back w (gives (verdictOf (viewOf (a .w)) (a .hysteresis)))) (read-record (a .w) (formed-there c) .back)
 
 -- ---- the needs
 
@@ -137,7 +138,7 @@ returns-4 c =
     let a = entry e3 .args in
     let h = ap (λ (z : ℤ). pos (natAbs z)) (bits (entry e3)) ∙ sym (hysteresis-is e3 .0) in
     c .answered .ensures
-    ∙ ap (back (a .w)) (c .before .judged .ensures ∙ ap (λ (z : ℤ). gives (verdictOf (shown (rows (a .w))) z)) h)
+    ∙ ap (back (a .w)) (c .before .judged .ensures ∙ ap (λ (z : ℤ). gives (verdictOf (viewOf (a .w)) z)) h)
     ∙ sym (granted e3)
 
 pub verdict-spec : {M : Type 1} → statement M

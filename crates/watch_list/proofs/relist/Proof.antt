@@ -1,7 +1,7 @@
 -- As far as the list was gone through, the tracks are those of the serving channel and that part of the list. What a channel gets at its
 -- own place among the old tracks are the levels that it had.
 use Prim.Native.Nat.{ℕ, _+_, _-_, _≤_, _<_}
-use mathlib.Core.Path.{_≡_, sym, ap, ap₂, _∙_}
+use mathlib.Core.Path.{_≡_, refl, sym, ap, ap₂, _∙_}
 use mathlib.Core.List.{List, map}
 use native.Mathlib.Omega.{arith}
 use borrow.Author.Needs.{needs}
@@ -23,10 +23,10 @@ use Rattle.watch_list.proofs.relist.Statement.{statement}
 use Rattle.watch_list.proofs.relist.Tie as tie
 
 abbrev Inv-loop : tie.InvT-loop
-Inv-loop n list old v₀ k i₀ v i = (i ≤ k) × (v .tracks ≡ tracksFor (getD old 0 nothing .channel) (map rowOf (take n old)) (take i list))
+Inv-loop n depth list old v₀ k i₀ v i = (i ≤ k) × (v .tracks ≡ tracksFor (getD old 0 nothing .channel) (map rowOf (take n old)) (take i list))
 
 abbrev μ-loop : tie.MeasureT-loop
-μ-loop n list old v₀ k i₀ v i = k - i
+μ-loop n depth list old v₀ k i₀ v i = k - i
 
 fresh-requires : tie.Need-fresh-requires Inv-loop μ-loop
 fresh-requires c κs = search needs
@@ -42,7 +42,7 @@ loop-holds c =
     let s = c .before .before .before in
     let a = s .args in (
       omega arith,
-      ap₂ (λ (v : Watch) (t : Track). set (v .tracks) 0 t) (c .before .fresh .ensures) (first-track (a .n) (a .t1) (s .pre .0) (s .pre .2))
+      ap₂ (λ (v : Watch) (t : Track). set (v .tracks) 0 t) (c .before .fresh .ensures) (first-track (a .depth) (a .n) (a .t1) (s .pre .0) (s .pre .2))
           ∙ ap (tracksFor (getD (a .t1) 0 nothing .channel) (map rowOf (take (a .n) (a .t1)))) (sym (take-none (a .list .now))),
     )
 
@@ -90,7 +90,7 @@ loop-again c =
     let t : c .kept .result ≡ trackOf (row k (levelsOf k (map rowOf (take (a .n) (a .t1))))) =
     c .kept .ensures
     ∙ ap (λ (p : ℕ). keptFrom (a .t1) (a .n) p k) (c .before .place .ensures)
-    ∙ kept-levels (a .n) k (a .t1) (s .pre .2) in (
+    ∙ kept-levels (a .depth) (a .n) k (a .t1) (s .pre .2) in (
       omega arith,
       ap₂ (λ (ts : List Track) (u : Track). set ts (at .loop .i + 1) u) (at .loop .inv .1) t
           ∙ list-step (getD (a .t1) 0 nothing .channel) (map rowOf (take (a .n) (a .t1))) (a .list .now) (at .loop .i) (il .loop-test .taken) (s .pre .3),
@@ -109,7 +109,7 @@ returns c =
     let e : at .loop .i ≡ length l = omega (arith, at .loop .inv .0, c .loop-test .left) in
     let k : take (at .loop .i) l ≡ l = ap (λ (j : ℕ). take j l) e ∙ take-length l in
     let n : length l + 1 ≡ length (relisted s l rs) = omega (arith, length-relisted s l rs) in
-    watch-path n (at .loop .inv .1 ∙ ap (tracksFor s rs) k)
+    watch-path n refl (at .loop .inv .1 ∙ ap (tracksFor s rs) k)
 
 pub relist-spec : {M : Type 1} → statement M
 relist-spec =

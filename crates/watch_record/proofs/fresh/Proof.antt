@@ -9,7 +9,7 @@ use Rattle.watch_record.proofs.fresh.Statement.{statement}
 use Rattle.watch_record.proofs.fresh.Tie as tie
 
 abbrev without : Track → Watch
-without t = record { watched = 0; tracks = replicate room t }
+without t = record { watched = 0; tracks = replicate room t; depth = 0 }
 
 empty-requires : tie.Need-empty-requires
 empty-requires c κs = search needs

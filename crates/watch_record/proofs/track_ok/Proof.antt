@@ -6,7 +6,7 @@ use borrow.Author.Tests.{eq-eqb}
 use lib.Dec.{eqb, leb}
 use lib.ListN.{length}
 use Rattle.readings_rules.specs.Channels.{channelHighest}
-use Rattle.watch_rules.specs.Limits.{depth, capacity}
+use Rattle.watch_rules.specs.Limits.{capacity}
 use Rattle.watch_rules.specs.Record.{levelsFine}
 use Rattle.watch_record.proofs.track_ok.Statement.{statement}
 use Rattle.watch_record.proofs.track_ok.Tie as tie
@@ -28,13 +28,15 @@ levels-ok-requires : tie.Need-levels-ok-requires
 levels-ok-requires c κs = search needs
 
 returns : tie.Need-returns
-unfolding depth
 returns c =
     let s = c .before .before .before .before .before in
     let t = s .args .t in
     let l : length (t .levels) ≡ capacity = search needs in
-    ap (λ (b : Bool). (((s .args .used || (eqb (t .channel) 0 && eqb (t .count) 0)) && leb (t .channel) channelHighest) && leb (t .count) depth) && b) (c .levels-ok .ensures)
-    ∙ reordered (s .args .used) (eqb (t .channel) 0 && eqb (t .count) 0) (leb (t .channel) channelHighest) (leb (t .count) depth) (eqb (length (t .levels)) capacity)
+    ap (λ (b : Bool). (((s .args .used || (eqb (t .channel) 0 && eqb (t .count) 0)) && leb (t .channel) channelHighest)
+    && leb (t .count) (s .args .depth)) && b)
+    (c .levels-ok .ensures)
+    ∙ reordered (s .args .used) (eqb (t .channel) 0 && eqb (t .count) 0)
+    (leb (t .channel) channelHighest) (leb (t .count) (s .args .depth)) (eqb (length (t .levels)) capacity)
     (levelsFine (t .count) (t .levels)) (eq-eqb (length (t .levels)) capacity l)
 
 pub track-ok-spec : {M : Type 1} → statement M

@@ -14,10 +14,10 @@ use Rattle.watch_record.proofs.tracks_ok.Statement.{statement}
 use Rattle.watch_record.proofs.tracks_ok.Tie as tie
 
 abbrev Inv-loop : tie.InvT-loop
-Inv-loop n tracks i₀ i = (i ≤ room) × (tracksFine n tracks ≡ tracksFine (n - i) (drop i tracks))
+Inv-loop n depth tracks i₀ i = (i ≤ room) × (tracksFine depth n tracks ≡ tracksFine depth (n - i) (drop i tracks))
 
 abbrev μ-loop : tie.MeasureT-loop
-μ-loop n tracks i₀ i = room - i
+μ-loop n depth tracks i₀ i = room - i
 
 -- the place tested, and the test of all by what was found there
 module _ (c : tie.After-track-ok Inv-loop μ-loop) where
@@ -25,22 +25,22 @@ module _ (c : tie.After-track-ok Inv-loop μ-loop) where
   at = c .before .before .before
 
   by-place : (b : Bool) → c .track-ok .result ≡ b
-      → tracksFine (at .before .args .n) (at .before .args .t1)
-      ≡ (b && tracksFine (at .before .args .n - (at .loop .i + 1)) (drop (at .loop .i + 1) (at .before .args .t1)))
+      → tracksFine (at .before .args .depth) (at .before .args .n) (at .before .args .t1)
+      ≡ (b && tracksFine (at .before .args .depth) (at .before .args .n - (at .loop .i + 1)) (drop (at .loop .i + 1) (at .before .args .t1)))
   by-place b e =
       let a = at .before .args in
       let i = at .loop .i in
       let l : length (a .t1) ≡ room = search needs in
       let inside : i < length (a .t1) = omega (arith, c .before .before .loop-test .taken) in
       at .loop .inv .1
-      ∙ one-place (a .n) i (a .t1) inside
-      ∙ ap (λ (y : Bool). y && tracksFine (a .n - (i + 1)) (drop (i + 1) (a .t1))) (sym (c .track-ok .ensures) ∙ e)
+      ∙ one-place (a .depth) (a .n) i (a .t1) inside
+      ∙ ap (λ (y : Bool). y && tracksFine (a .depth) (a .n - (i + 1)) (drop (i + 1) (a .t1))) (sym (c .track-ok .ensures) ∙ e)
 
 loop-holds : tie.Need-loop-holds Inv-loop μ-loop
 loop-holds c =
     let a = c .args in
     let e : a .n ≡ a .n - 0 = omega arith in
-    (omega arith, ap (λ (k : ℕ). tracksFine k (a .t1)) e)
+    (omega arith, ap (λ (k : ℕ). tracksFine (a .depth) k (a .t1)) e)
 
 mul-t : tie.Need-mul-t Inv-loop μ-loop
 mul-t c = search needs
@@ -69,7 +69,7 @@ returns-2 c =
     let a = head .before .args in
     let l : length (a .t1) ≡ room = search needs in
     let e : head .loop .i ≡ room = omega (arith, head .loop .inv .0, c .loop-test .left) in
-    sym (head .loop .inv .1 ∙ at-end (a .n) (head .loop .i) (a .t1) (omega arith) ∙ ap (leb (a .n)) e)
+    sym (head .loop .inv .1 ∙ at-end (a .depth) (a .n) (head .loop .i) (a .t1) (omega arith) ∙ ap (leb (a .n)) e)
 
 pub tracks-ok-spec : {M : Type 1} → statement M
 tracks-ok-spec =
