@@ -84,7 +84,7 @@ impl Session {
     /// The calls on the watch.
     fn answer_watch(&mut self, call: &WatchCall) -> Result<String, Refusal> {
         match call {
-            WatchCall::Start(serving) => self.watch.start(*serving).map(|()| accepted()),
+            WatchCall::Start(serving, depth) => self.watch.start(*serving, *depth).map(|()| accepted()),
             WatchCall::List(list) => self.watch.new_list(list).map(|()| accepted()),
             WatchCall::Move(neighbour) => self.watch.move_to(*neighbour).map(|()| accepted()),
             WatchCall::File(channel, burst) => self.watch.file(*channel, *burst).map(|()| accepted()),
@@ -237,6 +237,43 @@ mod tests {
     }
 
     #[test]
+    fn a_start_at_another_depth_as_a_session() {
+        check(&[
+            ("start 10 5", "accepted"),
+            ("list 20", "accepted"),
+            ("file 10 heard -100 0", "accepted"),
+            ("file 10 heard -100 0", "accepted"),
+            ("file 10 heard -100 0", "accepted"),
+            ("file 10 heard -100 0", "accepted"),
+            ("verdict 0", "wait"),
+            ("file 10 heard -101 0", "accepted"),
+            ("verdict 0", "stay"),
+            ("ask 10", "count 5 mean -10020"),
+            ("start 10 4", "refused 7"),
+            ("start 10 32", "refused 7"),
+            ("start 1088 4", "refused 7"),
+            ("start 1088 15", "refused 2"),
+            ("start 1088", "refused 2"),
+            ("start 10 256", "error line 16"),
+            ("start 10 5 5", "error line 17"),
+            ("file 10 heard -102 0", "accepted"),
+            ("ask 10", "count 5 mean -10060"),
+            ("start 20 31", "accepted"),
+            ("ask 10", "refused 6"),
+            ("ask 20", "count 0 mean 0"),
+            ("verdict 0", "wait"),
+        ]);
+    }
+
+    #[test]
+    fn depth_15_by_name_answers_as_a_start_without_a_depth() {
+        let rest = "\nlist 20\n".to_string() + &"file 10 heard -100 0\nask 10\nverdict 0\n".repeat(17);
+        let (named, unnamed) = (format!("start 10 15{rest}"), format!("start 10{rest}"));
+        assert_eq!(answers(named.as_bytes()), answers(unnamed.as_bytes()));
+        assert_eq!(answers(named.as_bytes()).lines().filter(|answer| *answer == "wait").count(), 14);
+    }
+
+    #[test]
     fn checked_examples_of_power_as_a_session() {
         check(&[
             ("step failed 0", "par 0 pan 0"),
@@ -275,6 +312,9 @@ mod tests {
             ("verdict 0", "refused 6"),
             ("verdict -1", "refused 7"),
             ("start 1088", "refused 2"),
+            ("start 1088 4", "refused 7"),
+            ("start 0 32", "refused 7"),
+            ("ask 0", "refused 6"),
             ("ask 1088", "refused 6"),
         ]);
     }

@@ -63,8 +63,9 @@ pub fn generate(seed: u64, count: u64, output: &mut impl Write) -> Result<()> {
 #[cfg(test)]
 mod tests {
     use super::*;
-    use crate::answer::answer_all;
-    use std::collections::BTreeSet;
+    use crate::answer::{answer_all, Session};
+    use crate::parse::{call, Call, WatchCall};
+    use std::collections::{BTreeMap, BTreeSet};
 
     fn made(seed: u64, count: u64) -> Vec<u8> {
         let mut session = Vec::new();
@@ -104,6 +105,41 @@ mod tests {
         ] {
             let times = answers.lines().filter(|answer| answer.starts_with(kind)).count();
             assert!(times >= 10, "{kind} {times}");
+        }
+    }
+
+    /// How often a start at a depth, and a verdict at the depth that then holds, gives each answer.
+    fn answers_by_depth(session: &[u8]) -> BTreeMap<(u8, String), usize> {
+        let (mut session_now, mut depth, mut times) = (Session::fresh(), 0, BTreeMap::new());
+        for line in session.split(|byte| *byte == b'\n') {
+            let Some(answer) = session_now.answer_line(0, line) else { continue };
+            let key = match call(line) {
+                Some(Call::Watch(WatchCall::Start(_, given))) => {
+                    depth = if answer == "accepted" { given } else { depth };
+                    (given, answer)
+                }
+                Some(Call::Watch(WatchCall::Verdict(_))) => (depth, answer.split(' ').next().unwrap().to_string()),
+                _ => continue,
+            };
+            *times.entry(key).or_default() += 1;
+        }
+        times
+    }
+
+    #[test]
+    fn watches_of_many_depths_come_to_every_verdict() {
+        let times = answers_by_depth(&made(1, 60_000));
+        let often = |depth: u8, answer: &str| {
+            let found = times.get(&(depth, answer.to_string())).copied().unwrap_or(0);
+            assert!(found >= 5, "depth {depth}: {answer} {found}");
+        };
+        for depth in [5, 6, 15, 30, 31] {
+            for answer in ["accepted", "refused 2", "wait", "stay", "move"] {
+                often(depth, answer);
+            }
+        }
+        for depth in [0, 4, 32, 255] {
+            often(depth, "refused 7");
         }
     }
 }

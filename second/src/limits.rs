@@ -1,4 +1,4 @@
-//! The numbers of document 01 and of the session format, each named once.
+//! The numbers of document 01, of request E8 and of the session format, each named once.
 
 use std::ops::RangeInclusive;
 
@@ -25,8 +25,10 @@ pub const SUITABLE: u8 = 1;
 
 /// How many neighbours a watch has at most.
 pub const MOST_NEIGHBOURS: usize = 6;
-/// How many levels make a full mean; older ones count no more.
-pub const DEPTH: usize = 15;
+/// The depth of a watch: how many levels make a full mean; older ones count no more.
+pub const DEPTH_RANGE: RangeInclusive<u8> = 5..=31;
+/// The depth that `start` means with a channel alone.
+pub const USUAL_DEPTH: u8 = 15;
 /// The hysteresis of a verdict, in hundredths.
 pub const HYSTERESIS_RANGE: RangeInclusive<i32> = 0..=6_000;
 

@@ -1,6 +1,8 @@
 //! The lines and words of a session file: a line of bytes to a call, or to nothing when it is none.
 
-use crate::limits::{HIGHEST_CHANNEL, LONGEST_LINE, MOST_FLOAT_DIGITS, MOST_LIST_WORDS, MOST_WHOLE_DIGITS};
+use crate::limits::{
+    HIGHEST_CHANNEL, LONGEST_LINE, MOST_FLOAT_DIGITS, MOST_LIST_WORDS, MOST_WHOLE_DIGITS, USUAL_DEPTH,
+};
 use crate::power::{Codes, Parameters};
 use crate::reading::{nearest_float, Burst};
 
@@ -34,10 +36,10 @@ pub enum SweepCall {
     Choose(i32),
 }
 
-/// The calls on the watch.
+/// The calls on the watch; a start has the serving channel and the depth.
 #[derive(Clone, Debug, PartialEq, Eq)]
 pub enum WatchCall {
-    Start(u16),
+    Start(u16, u8),
     List(Vec<u16>),
     Move(u16),
     File(u16, Burst),
@@ -106,7 +108,8 @@ fn sweep_call(words: &[&[u8]]) -> Option<SweepCall> {
 /// `start`, `list`, `move`, `file`, `ask` and `verdict`.
 fn watch_call(words: &[&[u8]]) -> Option<WatchCall> {
     match *words {
-        [b"start", channel] => Some(WatchCall::Start(ch(channel)?)),
+        [b"start", channel] => Some(WatchCall::Start(ch(channel)?, USUAL_DEPTH)),
+        [b"start", channel, depth] => Some(WatchCall::Start(ch(channel)?, byte(depth)?)),
         [b"list", ref channels @ ..] if channels.len() <= MOST_LIST_WORDS => {
             let list: Option<Vec<u16>> = channels.iter().map(|channel| ch(channel)).collect();
             Some(WatchCall::List(list?))
@@ -354,7 +357,8 @@ mod tests {
             ("sweep counts", Call::Sweep(S::Counts)),
             ("outcome 1087 255", Call::Sweep(S::Outcome(1_087, 255))),
             ("choose -1", Call::Sweep(S::Choose(-1))),
-            ("start 65535", Call::Watch(W::Start(65_535))),
+            ("start 65535", Call::Watch(W::Start(65_535, 15))),
+            ("start 65535 31", Call::Watch(W::Start(65_535, 31))),
             ("list", Call::Watch(W::List(vec![]))),
             ("list 1 1 2 3 4 5 6 7", Call::Watch(W::List(vec![1, 1, 2, 3, 4, 5, 6, 7]))),
             ("move 3", Call::Watch(W::Move(3))),
@@ -367,6 +371,24 @@ mod tests {
         ];
         for (line, expected) in cases {
             assert_eq!(call(line.as_bytes()), Some(expected), "{line}");
+        }
+    }
+
+    #[test]
+    fn the_depth_of_a_start_is_any_byte() {
+        for (line, channel, depth) in [
+            ("start 5", 5, 15), ("start 5 15", 5, 15), ("start 5 -0", 5, 0), ("start 5 0", 5, 0), ("start 5 4", 5, 4),
+            ("start 5 255", 5, 255), ("start 5 0000000031", 5, 31), ("start -0 -00", 0, 0),
+            ("start 1088 32", 1_088, 32),
+        ] {
+            assert_eq!(call(line.as_bytes()), Some(Call::Watch(W::Start(channel, depth))), "{line}");
+        }
+        for line in [
+            "start 5 256", "start 5 -1", "start 5 1 2", "start 5 15 15", "start 5 x", "start 5 +5", "start 5 5.",
+            "start 5 5.0", "start 5 0x05", "start 5 00000000005", "start 5 ", "start 5  6", "start 65536 5",
+            "start x 5",
+        ] {
+            assert!(is_error(line), "{line}");
         }
     }
 

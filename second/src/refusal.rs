@@ -15,7 +15,7 @@ pub enum Refusal {
     List = 5,
     /// A channel not watched or not in the list; new list or verdict on an idle watch.
     NotWatched = 6,
-    /// A margin, hysteresis, power parameter or code out of range.
+    /// A margin, hysteresis, depth, power parameter or code out of range.
     Parameter = 7,
     /// A faulty outcome string.
     Outcomes = 8,

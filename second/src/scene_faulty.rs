@@ -5,12 +5,12 @@ use crate::parse::call;
 use crate::script::Script;
 
 /// Sound lines to be spoiled.
-const SOUND: [&str; 26] = [
+const SOUND: [&str; 27] = [
     "level -90.13", "quality 8.5", "level 0xc2b40000", "quality nan", "show level -9000", "show quality 850",
     "sweep fresh", "sweep file 100 heard -90 8.5", "sweep file 101 missed", "sweep rest missed", "sweep next",
-    "sweep counts", "outcome 100 2", "choose 300", "start 100", "list 1 2 3 4 5 6", "list 7", "list", "move 2",
-    "file 2 heard -97.5 3", "file 2 missed", "ask 2", "verdict 300", "params 85 30 0 60 10 10 3", "step 20 30 850",
-    "step failed 850",
+    "sweep counts", "outcome 100 2", "choose 300", "start 100", "start 100 9", "list 1 2 3 4 5 6", "list 7", "list",
+    "move 2", "file 2 heard -97.5 3", "file 2 missed", "ask 2", "verdict 300", "params 85 30 0 60 10 10 3",
+    "step 20 30 850", "step failed 850",
 ];
 
 /// Words that no number of the format may be, and some that only one kind may be.
@@ -23,12 +23,12 @@ const BAD_NUMBERS: [&str; 48] = [
 ];
 
 /// Lines with a wrong number of words, or words that are none of the format's.
-const WRONG_LINES: [&str; 50] = [
+const WRONG_LINES: [&str; 51] = [
     "level", "level 1 2", "quality", "show", "show level", "show 5", "show level 5 5", "show power 5", "sweep",
     "sweep rest", "sweep rest missed now", "sweep fresh 1", "sweep file", "sweep file 5", "sweep file 5 heard",
     "sweep file 5 heard 1", "sweep file 5 heard 1 2 3", "sweep file 5 missed 1", "sweep next 5", "sweep done",
     "outcome", "outcome 5", "outcome 5 1 1", "outcome 1088 0", "outcome 65535 1", "outcome 5 256", "choose",
-    "choose 1 2", "choose 1.5", "start", "start 1 2", "start nan", "list 1 2 3 4 5 6 7 8 9",
+    "choose 1 2", "choose 1.5", "start", "start 1 2 3", "start 1 256", "start nan", "list 1 2 3 4 5 6 7 8 9",
     "list 1 2 3 4 5 6 7 8 9 10 11 12", "list 1 2 x", "list 65536", "move", "move 1 2", "file 5", "file 5 heard -90",
     "file 5 herd -90 5", "ask", "ask 1 2", "verdict", "verdict 0x10", "params 1 2 3 4 5 6", "params 1 2 3 4 5 6 7 8",
     "power", "power stop", "step 1 2",
@@ -117,12 +117,13 @@ fn any_bytes(dice: &mut Dice) -> Vec<u8> {
     line
 }
 
-/// Sound lines whose numbers are dressed as far as the format allows.
-const EDGE_LINES: [&str; 24] = [
+/// Sound lines whose numbers are dressed as far as the format allows; none of them starts a watch.
+const EDGE_LINES: [&str; 27] = [
     "ask -0", "ask 0000000000", "ask 0000065535", "ask 65535", "move 0000001087", "verdict -0", "verdict 0000006000",
     "verdict -2147483648", "verdict 2147483647", "verdict -0000000001", "choose -0", "level -0000.00", "level 0000000",
     "level -000090", "quality 0.00001", "quality 0.000001", "quality 9999999", "level -99.9999", "level -150.000",
     "level -150.001", "quality 40.0001", "quality 40.00000", "show level -0", "outcome 0001087 0000000000",
+    "start 5 -0", "start -0 0000000032", "start 0000001088 0000000031",
 ];
 
 /// A run of faulty lines, comments, empty lines, and sound lines at the edge of the format.
@@ -143,7 +144,7 @@ pub fn faulty(script: &mut Script) {
 pub fn catalogue(script: &mut Script) {
     let mut lines: Vec<Vec<u8>> = Vec::new();
     for number in BAD_NUMBERS {
-        for begin in ["level", "verdict", "ask", "outcome 5"] {
+        for begin in ["level", "verdict", "ask", "outcome 5", "start 5"] {
             lines.push(format!("{begin} {number}").into_bytes());
         }
     }

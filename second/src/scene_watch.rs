@@ -1,14 +1,18 @@
 //! Scenes of the watch: full means with sums at the turn of a verdict, lists in other orders, dropped channels, moves.
 
-use crate::limits::{DEPTH, HIGHEST_CHANNEL, LEVEL_RANGE, MOST_NEIGHBOURS};
+use crate::limits::{DEPTH_RANGE, HIGHEST_CHANNEL, LEVEL_RANGE, MOST_NEIGHBOURS, USUAL_DEPTH};
 use crate::script::Script;
 use crate::words::whole_word;
 
-/// How many levels of each channel are planned.
-const PLANNED: i32 = DEPTH as i32;
+/// The ends of the range of depths, and the depth of a start without one, to aim with.
+const LOWEST: i32 = *DEPTH_RANGE.start() as i32;
+const HIGHEST: i32 = *DEPTH_RANGE.end() as i32;
+const USUAL: i32 = USUAL_DEPTH as i32;
 
 /// What a planned watch aims at.
 struct Plan {
+    /// The depth of the watch, and so how many levels of each channel are planned.
+    depth: i32,
     hysteresis: i32,
     list: Vec<i32>,
     strange: i32,
@@ -19,8 +23,8 @@ struct Plan {
 /// A watch planned so that its verdict turns at one hysteresis; levels are filed in any order, with turns between.
 pub fn planned_watch(script: &mut Script) {
     let mut plan = plan(script);
-    let serving = plan.queues[0].0;
-    script.add(format!("start {serving}").into_bytes());
+    let start = start_line(script, plan.queues[0].0, plan.depth);
+    script.add(start.into_bytes());
     say_list(script, &plan.list);
     while !plan.queues.is_empty() {
         let place = script.dice.below(plan.queues.len());
@@ -41,6 +45,42 @@ pub fn planned_watch(script: &mut Script) {
     finale(script, &plan);
 }
 
+/// A depth in range: mostly an end of it, one beside an end, or the usual one.
+fn sound_depth(script: &mut Script) -> i32 {
+    match script.dice.below(8) {
+        0 | 1 => LOWEST,
+        2 => LOWEST + 1,
+        3 => HIGHEST - 1,
+        4 => HIGHEST,
+        5 | 6 => USUAL,
+        _ => script.dice.between(LOWEST, HIGHEST),
+    }
+}
+
+/// A depth just or far out of range.
+fn bad_depth(script: &mut Script) -> i32 {
+    script.dice.pick(&[LOWEST - 1, LOWEST - 1, HIGHEST + 1, HIGHEST + 1, 0, 255])
+}
+
+/// A start at this depth; the usual one often goes without saying.
+fn start_line(script: &mut Script, channel: i32, depth: i32) -> String {
+    if depth == USUAL && !script.dice.one_in(3) {
+        return format!("start {channel}");
+    }
+    let word = whole_word(&mut script.dice, depth);
+    format!("start {channel} {word}")
+}
+
+/// A start that is refused: a depth out of range, a channel above 1,087, or both.
+fn refused_start(script: &mut Script, strange: i32) {
+    let here = script.dice.pick(&[serving(script), strange, 0, 1_087]);
+    let above = script.dice.pick(&[1_088, 1_088, 1_089, 65_535]);
+    let (sound, bad) = (sound_depth(script), bad_depth(script));
+    let (channel, depth) = script.dice.pick(&[(here, bad), (here, bad), (above, bad), (above, sound)]);
+    let line = start_line(script, channel, depth);
+    script.say(&line);
+}
+
 /// Eight different channels, often with the ends among them.
 fn eight_channels(script: &mut Script) -> Vec<i32> {
     let mut channels = vec![];
@@ -59,7 +99,7 @@ fn eight_channels(script: &mut Script) -> Vec<i32> {
 
 /// A serving level, a hysteresis, and neighbours whose sums lie at or about the turn.
 fn plan(script: &mut Script) -> Plan {
-    let channels = eight_channels(script);
+    let (depth, channels) = (sound_depth(script), eight_channels(script));
     let count = script.dice.pick(&[1, 2, 2, 3, 3, 4, 6, 6]);
     let hysteresis = script.dice.pick(&[0, 0, 1, 2, 3, 299, 300, 301, 1_000, 3_000, 5_999, 6_000]);
     let base = match script.dice.below(5) {
@@ -67,20 +107,20 @@ fn plan(script: &mut Script) -> Plan {
         1 => -hysteresis - 2,
         _ => script.dice.between(-14_600, -hysteresis - 400),
     };
-    let mut queues = vec![(channels[0], with_older(script, base, 0))];
-    let shared = script.dice.pick(&[0, 1, 1, 1, 2, 15]);
+    let mut queues = vec![(channels[0], with_older(script, depth, base, 0))];
+    let shared = script.dice.pick(&[0, 1, 1, 1, 2, depth]);
     for channel in &channels[1..=count] {
         // Half of the neighbours share one sum, so that the channel number has to decide.
-        let other = script.dice.pick(&[-15, -1, 0, 0, 1, 1, 2, 15, 16]);
+        let other = script.dice.pick(&[-depth, -1, 0, 0, 1, 1, 2, depth, depth + 1]);
         let beyond = if script.dice.one_in(2) { shared } else { other };
-        queues.push((*channel, with_older(script, base + hysteresis, beyond)));
+        queues.push((*channel, with_older(script, depth, base + hysteresis, beyond)));
     }
-    Plan { hysteresis, list: channels[1..=count].to_vec(), strange: channels[7], queues }
+    Plan { depth, hysteresis, list: channels[1..=count].to_vec(), strange: channels[7], queues }
 }
 
 /// The planned levels, at times one short, and before them some that must fall out again.
-fn with_older(script: &mut Script, each: i32, beyond: i32) -> Vec<i32> {
-    let mut levels = spread(script, each, beyond);
+fn with_older(script: &mut Script, depth: i32, each: i32, beyond: i32) -> Vec<i32> {
+    let mut levels = spread(script, depth, each, beyond);
     if script.dice.one_in(12) {
         levels.pop();
     } else {
@@ -92,10 +132,10 @@ fn with_older(script: &mut Script, each: i32, beyond: i32) -> Vec<i32> {
     levels
 }
 
-/// Planned levels with the sum PLANNED x each + beyond, unlike each other.
-fn spread(script: &mut Script, each: i32, beyond: i32) -> Vec<i32> {
-    let mut levels: Vec<i32> = (0..PLANNED)
-        .map(|place| each + beyond.div_euclid(PLANNED) + i32::from(place < beyond.rem_euclid(PLANNED)))
+/// As many levels as the depth, with the sum depth x each + beyond, unlike each other.
+fn spread(script: &mut Script, depth: i32, each: i32, beyond: i32) -> Vec<i32> {
+    let mut levels: Vec<i32> = (0..depth)
+        .map(|place| each + beyond.div_euclid(depth) + i32::from(place < beyond.rem_euclid(depth)))
         .collect();
     for _ in 0..script.dice.pick(&[0, 5, 20]) {
         let (one, other) = (script.dice.below(levels.len()), script.dice.below(levels.len()));
@@ -156,7 +196,7 @@ fn refused_list(script: &mut Script) {
 
 /// A turn that keeps every level: another order, refusals, missed bursts, questions.
 fn harmless_turn(script: &mut Script, plan: &Plan) {
-    match script.dice.below(13) {
+    match script.dice.below(15) {
         0..=3 => reordered(script),
         4 | 5 => refused_list(script),
         6 => refused_move(script, plan.strange),
@@ -167,6 +207,7 @@ fn harmless_turn(script: &mut Script, plan: &Plan) {
         }
         9 => ask_all(script, plan.strange),
         10 => move_there_and_back(script),
+        11 | 12 => refused_start(script, plan.strange),
         _ => {
             let near = script.dice.between(-1, 1);
             say_verdict(script, plan.hysteresis + near);
@@ -226,7 +267,7 @@ fn finale(script: &mut Script, plan: &Plan) {
     ask_all(script, plan.strange);
     verdicts(script, plan);
     for _ in 0..script.dice.between(2, 6) {
-        match script.dice.below(9) {
+        match script.dice.below(10) {
             0 | 1 => reordered(script),
             2 => drop_and_take_back(script),
             3 => refused_list(script),
@@ -234,6 +275,7 @@ fn finale(script: &mut Script, plan: &Plan) {
             5 => move_there_and_back(script),
             6 => one_more_level(script),
             7 => strange_in_its_place(script, plan.strange),
+            8 => refused_start(script, plan.strange),
             _ => follow_verdict(script, plan.hysteresis),
         }
         let near = script.dice.between(-1, 1);
@@ -242,22 +284,41 @@ fn finale(script: &mut Script, plan: &Plan) {
     verdicts(script, plan);
     ask_all(script, plan.strange);
     if script.dice.one_in(2) {
-        start_again(script, plan.strange);
+        let depth = start_again(script, plan);
+        fill_again(script, depth);
     }
 }
 
-/// A start on the serving channel, a neighbour, a stranger or refused; then what is left of the watch before it.
-fn start_again(script: &mut Script, strange: i32) {
-    let (before, serving) = (neighbours(script), serving(script));
+/// A start on the serving channel, a neighbour, a stranger or refused, mostly at another depth; then what is left of
+/// the watch before it. Gives the depth that the watch has now.
+fn start_again(script: &mut Script, plan: &Plan) -> i32 {
+    let (before, serving, strange) = (neighbours(script), serving(script), plan.strange);
     let neighbour = before.first().copied().unwrap_or(strange);
     let again = script.dice.pick(&[serving, serving, neighbour, strange, 1_088]);
-    script.say(&format!("start {again}"));
+    let depth = if script.dice.one_in(6) { bad_depth(script) } else { sound_depth(script) };
+    let line = start_line(script, again, depth);
+    let answer = script.say(&line);
     say_verdict(script, 0);
     for channel in before {
         script.say(&format!("ask {channel}"));
     }
     script.say(&format!("ask {serving}"));
     script.say(&format!("move {neighbour}"));
+    if answer == "accepted" { depth } else { plan.depth }
+}
+
+/// Files one level more than the depth under the serving channel, with verdicts from one short of the depth on.
+fn fill_again(script: &mut Script, depth: i32) {
+    let serving = serving(script);
+    for filed in 1..=depth + 1 {
+        let level = script.dice.within(&LEVEL_RANGE);
+        let burst = script.heard(level);
+        script.say(&format!("file {serving} {burst}"));
+        if filed >= depth - 1 {
+            say_verdict(script, 0);
+            script.say(&format!("ask {serving}"));
+        }
+    }
 }
 
 /// Verdicts at and beside the turn, at 0 and at or outside an end of the range.
@@ -315,10 +376,14 @@ pub fn loose_watch(script: &mut Script) {
     let mut channels = eight_channels(script);
     channels.truncate(script.dice.between(3, 8) as usize);
     let levels = [-9_000, -9_000, -9_001, -8_999, -1, -2, 0, -15_000];
+    if script.dice.one_in(2) {
+        loose_start(script, channels[0]);
+        loose_list(script, &channels);
+    }
     for _ in 0..script.dice.between(30, 120) {
         let channel = script.dice.pick(&channels);
-        match script.dice.below(40) {
-            0 => drop(script.say(&format!("start {channel}"))),
+        match script.dice.below(41) {
+            0 => loose_start(script, channel),
             1..=3 => loose_list(script, &channels),
             4 | 5 => drop(script.say(&format!("move {channel}"))),
             6..=8 => drop(script.say(&format!("ask {channel}"))),
@@ -331,6 +396,7 @@ pub fn loose_watch(script: &mut Script) {
                 script.say(&format!("file {channel} {burst}"));
             }
             13 => drop(script.say(&format!("file {channel} missed"))),
+            14 => refused_start(script, channel),
             _ => {
                 let level = script.dice.pick(&levels);
                 let burst = script.heard(level);
@@ -338,6 +404,13 @@ pub fn loose_watch(script: &mut Script) {
             }
         }
     }
+}
+
+/// A start of this channel at any depth in range.
+fn loose_start(script: &mut Script, channel: i32) {
+    let depth = sound_depth(script);
+    let line = start_line(script, channel, depth);
+    script.say(&line);
 }
 
 /// A list of any of the channels, in any order, with repeats at times.
@@ -358,8 +431,9 @@ pub fn idle_watch(script: &mut Script) {
         "ask 0", "ask 5", "ask 1088", "move 0", "move 7", "file 0 heard -90 5", "file 0 missed",
         "file 3 heard nan nan", "list", "list 0", "list 1 2 3", "list 0 0", "list 1 2 3 4 5 6", "list 1 2 3 4 5 6 7",
         "list 1 2 3 4 5 6 7 8", "list 1088", "list 1087", "verdict 0", "verdict 6000", "verdict 6001", "verdict -1",
-        "start 1088", "start 65535", "list 5 65535 5", "step failed 0", "step 10 20 0", "step 64 0 0",
-        "step failed 4001", "choose 0", "sweep next", "sweep counts", "choose 6001",
+        "start 1088", "start 65535", "start 5 4", "start 0 32", "start 0 0", "start 7 255", "start 1088 4",
+        "start 1088 32", "start 65535 0", "start 1088 15", "start 1088 31", "list 5 65535 5", "step failed 0",
+        "step 10 20 0", "step 64 0 0", "step failed 4001", "choose 0", "sweep next", "sweep counts", "choose 6001",
     ];
     script.dice.shuffle(&mut lines);
     for line in lines {

@@ -7,6 +7,12 @@ use crate::parse::call;
 use crate::scene_faulty::faulty_line;
 use crate::words::{any_float, hundredths_word};
 
+/// Starts that are refused, whatever the watch: a channel above 1,087, a depth outside 5 to 31, or both.
+const REFUSED_STARTS: [&str; 12] = [
+    "start 1088", "start 1089", "start 2000", "start 65535", "start 1088 15", "start 1088 31", "start 1088 4",
+    "start 65535 32", "start 0 4", "start 5 32", "start 1087 0", "start 9 255",
+];
+
 /// The dice, the lines made so far, and the session that these lines lead to.
 pub struct Script {
     pub dice: Dice,
@@ -48,7 +54,7 @@ impl Script {
             2..=4 => self.surely_faulty(),
             5 => format!("level {}", any_float(&mut self.dice)).into_bytes(),
             6 => format!("quality {}", any_float(&mut self.dice)).into_bytes(),
-            7 => format!("start {}", self.dice.pick(&[1_088, 1_089, 2_000, 65_535])).into_bytes(),
+            7 => self.dice.pick(&REFUSED_STARTS).as_bytes().to_vec(),
             8 => b"sweep next".to_vec(),
             _ => b"sweep counts".to_vec(),
         };

@@ -1,12 +1,13 @@
 //! The plain watch of document 01: a serving channel or none, a set of neighbours and, for each channel
 //! under watch, the levels filed since it came under watch, oldest first. Places in a list do not exist here.
+//! Where document 01 says 15, the watch reads its depth (request E8).
 
-use crate::limits::{DEPTH, HIGHEST_CHANNEL, HYSTERESIS_RANGE, MOST_NEIGHBOURS};
+use crate::limits::{DEPTH_RANGE, HIGHEST_CHANNEL, HYSTERESIS_RANGE, MOST_NEIGHBOURS};
 use crate::reading::{heard_level, Burst};
 use crate::refusal::{judge, Refusal};
 use std::collections::{BTreeMap, BTreeSet};
 
-/// No answer looks behind the last DEPTH levels; so that memory stays bounded in a session of any length,
+/// No answer looks behind as many last levels as the depth; so that memory stays bounded in a session of any length,
 /// the older half goes when a channel holds this many.
 const LEVELS_HELD: usize = 1_000_000;
 
@@ -14,6 +15,8 @@ const LEVELS_HELD: usize = 1_000_000;
 #[derive(Clone, Debug, Default, PartialEq, Eq)]
 pub struct Watch {
     serving: Option<u16>,
+    /// Given at the start and kept for the watch's life; an idle watch has none, which 0 stands for.
+    depth: u8,
     neighbours: BTreeSet<u16>,
     levels: BTreeMap<u16, Vec<i32>>,
 }
@@ -26,15 +29,15 @@ pub enum Verdict {
     Move(u16),
 }
 
-/// The last DEPTH levels, or all if fewer.
-fn last_levels(levels: &[i32]) -> &[i32] {
-    &levels[levels.len().saturating_sub(DEPTH)..]
+/// The last levels, as many as the depth, or all if fewer.
+fn last_levels(levels: &[i32], depth: u8) -> &[i32] {
+    &levels[levels.len().saturating_sub(usize::from(depth))..]
 }
 
-/// The sum of the last levels if there are DEPTH of them.
-fn full_sum(levels: &[i32]) -> Option<i64> {
-    let last = last_levels(levels);
-    (last.len() == DEPTH).then(|| last.iter().copied().map(i64::from).sum())
+/// The sum of the last levels if there are as many as the depth.
+fn full_sum(levels: &[i32], depth: u8) -> Option<i64> {
+    let last = last_levels(levels, depth);
+    (last.len() == usize::from(depth)).then(|| last.iter().copied().map(i64::from).sum())
 }
 
 impl Watch {
@@ -48,11 +51,15 @@ impl Watch {
         &self.neighbours
     }
 
-    /// Rule "start": that channel alone, without levels.
-    pub fn start(&mut self, serving: u16) -> Result<(), Refusal> {
-        judge(&[(Refusal::Channel, serving > HIGHEST_CHANNEL)])?;
+    /// Rule "start": that channel alone, without levels, and this depth.
+    pub fn start(&mut self, serving: u16, depth: u8) -> Result<(), Refusal> {
+        judge(&[
+            (Refusal::Parameter, !DEPTH_RANGE.contains(&depth)),
+            (Refusal::Channel, serving > HIGHEST_CHANNEL),
+        ])?;
         *self = Watch {
             serving: Some(serving),
+            depth,
             neighbours: BTreeSet::new(),
             levels: BTreeMap::from([(serving, Vec::new())]),
         };
@@ -107,7 +114,7 @@ impl Watch {
     /// Rule "ask": count and mean over the last levels, the mean rounded down, 0 for a count of 0.
     pub fn ask(&self, channel: u16) -> Result<(usize, i64), Refusal> {
         judge(&[(Refusal::NotWatched, !self.levels.contains_key(&channel))])?;
-        let last = last_levels(&self.levels[&channel]);
+        let last = last_levels(&self.levels[&channel], self.depth);
         let sum: i64 = last.iter().copied().map(i64::from).sum();
         let mean = if last.is_empty() { 0 } else { sum.div_euclid(last.len() as i64) };
         Ok((last.len(), mean))
@@ -121,14 +128,14 @@ impl Watch {
             (Refusal::NotWatched, self.serving.is_none()),
         ])?;
         let serving_levels = self.serving.and_then(|serving| self.levels.get(&serving));
-        let Some(serving_sum) = serving_levels.and_then(|levels| full_sum(levels)) else {
+        let Some(serving_sum) = serving_levels.and_then(|levels| full_sum(levels, self.depth)) else {
             return Ok(Verdict::Wait);
         };
         let mut best: Option<(i64, u16)> = None;
         // By rising channel number, so among equal sums the lowest channel was there first.
         for channel in &self.neighbours {
-            let Some(sum) = full_sum(&self.levels[channel]) else { continue };
-            let counts = sum - serving_sum > DEPTH as i64 * i64::from(hysteresis);
+            let Some(sum) = full_sum(&self.levels[channel], self.depth) else { continue };
+            let counts = sum - serving_sum > i64::from(self.depth) * i64::from(hysteresis);
             if counts && best.is_none_or(|(greatest, _)| sum > greatest) {
                 best = Some((sum, *channel));
             }
@@ -154,11 +161,15 @@ mod tests {
         }
     }
 
-    fn watching(serving: u16, list: &[u16]) -> Watch {
+    fn watching_at(depth: u8, serving: u16, list: &[u16]) -> Watch {
         let mut watch = Watch::default();
-        watch.start(serving).unwrap();
+        watch.start(serving, depth).unwrap();
         watch.new_list(list).unwrap();
         watch
+    }
+
+    fn watching(serving: u16, list: &[u16]) -> Watch {
+        watching_at(15, serving, list)
     }
 
     #[test]
@@ -256,13 +267,141 @@ mod tests {
         let mut watch = watching(1, &[2]);
         fill(&mut watch, 1, 15, -100);
         let before = watch.clone();
-        assert_eq!(watch.start(1_088), Err(Refusal::Channel));
+        assert_eq!(watch.start(1_088, 15), Err(Refusal::Channel));
         assert_eq!(watch, before);
-        assert_eq!(watch.start(1), Ok(()));
+        assert_eq!(watch.start(1, 15), Ok(()));
         assert_eq!(watch.ask(1), Ok((0, 0)));
         assert_eq!(watch.ask(2), Err(Refusal::NotWatched));
-        assert_eq!(watch.start(1_087), Ok(()));
-        assert_eq!(watch.start(0), Ok(()));
+        assert_eq!(watch.start(1_087, 15), Ok(()));
+        assert_eq!(watch.start(0, 15), Ok(()));
+    }
+
+    #[test]
+    fn a_depth_out_of_range_is_told_before_a_channel() {
+        let mut watch = Watch::default();
+        for depth in [0, 4, 32, 255] {
+            for channel in [0, 5, 1_087, 1_088, 65_535] {
+                assert_eq!(watch.start(channel, depth), Err(Refusal::Parameter));
+            }
+        }
+        for depth in [5, 15, 31] {
+            assert_eq!(watch.start(1_088, depth), Err(Refusal::Channel));
+            assert_eq!(watch.start(65_535, depth), Err(Refusal::Channel));
+        }
+        assert_eq!(watch, Watch::default());
+        for depth in 5..=31 {
+            assert_eq!(watch.start(1_087, depth), Ok(()));
+        }
+    }
+
+    #[test]
+    fn the_verdict_comes_with_as_many_levels_as_the_depth() {
+        for depth in 5..=31 {
+            let mut watch = watching_at(depth, 10, &[20]);
+            for _ in 1..depth {
+                fill(&mut watch, 10, 1, -10_000);
+                assert_eq!(watch.verdict(0), Ok(Verdict::Wait));
+            }
+            fill(&mut watch, 10, 1, -10_000);
+            assert_eq!(watch.verdict(0), Ok(Verdict::Stay));
+            fill(&mut watch, 20, usize::from(depth) - 1, -9_000);
+            assert_eq!(watch.verdict(0), Ok(Verdict::Stay));
+            fill(&mut watch, 20, 1, -9_000);
+            assert_eq!(watch.verdict(0), Ok(Verdict::Move(20)));
+        }
+    }
+
+    #[test]
+    fn at_depth_5_the_fifth_level_brings_the_verdict() {
+        let mut watch = watching_at(5, 10, &[20]);
+        fill(&mut watch, 20, 5, -9_000);
+        fill(&mut watch, 10, 4, -10_000);
+        assert_eq!(watch.verdict(0), Ok(Verdict::Wait));
+        fill(&mut watch, 10, 1, -10_000);
+        assert_eq!(watch.verdict(1_000), Ok(Verdict::Stay));
+        assert_eq!(watch.verdict(999), Ok(Verdict::Move(20)));
+    }
+
+    #[test]
+    fn at_depth_31_a_32nd_level_pushes_out_the_first() {
+        let mut watch = watching_at(31, 10, &[]);
+        fill(&mut watch, 10, 1, 0);
+        fill(&mut watch, 10, 29, -3_100);
+        assert_eq!(watch.ask(10), Ok((30, -2_997)));
+        fill(&mut watch, 10, 1, -3_100);
+        assert_eq!(watch.ask(10), Ok((31, -3_000)));
+        fill(&mut watch, 10, 1, -3_100);
+        assert_eq!(watch.ask(10), Ok((31, -3_100)));
+    }
+
+    #[test]
+    fn the_hysteresis_is_multiplied_by_the_depth_of_the_watch() {
+        for depth in [5, 6, 15, 30, 31] {
+            for hysteresis in [0, 1, 300, 6_000] {
+                let mut watch = watching_at(depth, 10, &[20]);
+                fill(&mut watch, 10, usize::from(depth), -10_000);
+                fill(&mut watch, 20, usize::from(depth), -10_000 + hysteresis);
+                assert_eq!(watch.verdict(hysteresis), Ok(Verdict::Stay));
+                // The sum is greater by one hundredth now.
+                fill(&mut watch, 20, 1, -9_999 + hysteresis);
+                assert_eq!(watch.verdict(hysteresis), Ok(Verdict::Move(20)));
+            }
+        }
+    }
+
+    #[test]
+    fn a_refused_start_keeps_depth_and_levels() {
+        let mut watch = watching_at(5, 10, &[20]);
+        fill(&mut watch, 10, 5, -10_000);
+        fill(&mut watch, 20, 4, -9_000);
+        let before = watch.clone();
+        for (channel, depth) in [(10, 4), (20, 32), (30, 0), (10, 255), (1_088, 31), (1_088, 4)] {
+            assert!(watch.start(channel, depth).is_err());
+            assert_eq!(watch, before);
+        }
+        fill(&mut watch, 10, 1, -9_990);
+        assert_eq!(watch.ask(10), Ok((5, -9_998)));
+        assert_eq!(watch.verdict(0), Ok(Verdict::Stay));
+        fill(&mut watch, 20, 1, -9_000);
+        assert_eq!(watch.verdict(0), Ok(Verdict::Move(20)));
+    }
+
+    #[test]
+    fn a_second_start_takes_the_new_depth_and_forgets() {
+        for (first, second) in [(5, 31), (31, 5), (15, 5), (15, 31), (6, 5), (30, 31)] {
+            let mut watch = watching_at(first, 10, &[20]);
+            fill(&mut watch, 10, 40, -10_000);
+            fill(&mut watch, 20, 40, -9_000);
+            assert_eq!(watch.ask(10), Ok((usize::from(first), -10_000)));
+            watch.start(10, second).unwrap();
+            assert_eq!(watch.ask(10), Ok((0, 0)));
+            assert_eq!(watch.ask(20), Err(Refusal::NotWatched));
+            fill(&mut watch, 10, usize::from(second) - 1, -8_000);
+            assert_eq!(watch.verdict(0), Ok(Verdict::Wait));
+            fill(&mut watch, 10, 2, -8_000);
+            assert_eq!(watch.verdict(0), Ok(Verdict::Stay));
+            assert_eq!(watch.ask(10), Ok((usize::from(second), -8_000)));
+        }
+    }
+
+    #[test]
+    fn new_list_and_move_keep_the_depth() {
+        for depth in [5, 31] {
+            let mut watch = watching_at(depth, 10, &[20]);
+            fill(&mut watch, 10, 40, -10_000);
+            watch.new_list(&[30, 20]).unwrap();
+            fill(&mut watch, 30, 40, -9_000);
+            watch.move_to(30).unwrap();
+            fill(&mut watch, 20, usize::from(depth) - 1, -1);
+            assert_eq!(watch.verdict(0), Ok(Verdict::Stay));
+            fill(&mut watch, 20, 40, -1);
+            assert_eq!(watch.verdict(0), Ok(Verdict::Move(20)));
+            for channel in [10, 20, 30] {
+                assert_eq!(watch.ask(channel).unwrap().0, usize::from(depth));
+            }
+            watch.new_list(&[]).unwrap();
+            assert_eq!(watch.ask(30), Ok((usize::from(depth), -9_000)));
+        }
     }
 
     #[test]
@@ -292,7 +431,8 @@ mod tests {
         assert_eq!(watch.ask(0), Err(Refusal::NotWatched));
         assert_eq!(watch.move_to(0), Err(Refusal::NotWatched));
         assert_eq!(watch.file(0, heard(-1)), Err(Refusal::NotWatched));
-        assert_eq!(watch.start(2_000), Err(Refusal::Channel));
+        assert_eq!(watch.start(2_000, 15), Err(Refusal::Channel));
+        assert_eq!(watch.start(0, 4), Err(Refusal::Parameter));
         assert_eq!(watch, Watch::default());
     }
 
