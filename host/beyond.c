@@ -1,6 +1,6 @@
-/* What no session reaches, tried through the archive: records that are not well formed, the calls that no line asks for, empty lists, and the
- * header's names against the numbers of the archive. A damaged record is refused by every call with 9, whatever else is wrong, and is left or
- * handed back as it was. */
+/* What no session reaches, tried through the archive: records that are not well formed, the depth that a watch holds, the calls that no line
+ * asks for, empty lists, and the header's names against the numbers of the archive. A damaged record is refused by every call with 9, whatever
+ * else is wrong, and is left or handed back as it was. */
 #include "beyond.h"
 
 #include <math.h>
@@ -83,7 +83,7 @@ static int damaged_sweeps_refused(void)
 
 static int same_watch(const royukezan_watch *a, const royukezan_watch *b)
 {
-    int same = a->watched == b->watched;
+    int same = a->watched == b->watched && a->depth == b->depth;
     for (size_t i = 0; i < LENGTH(a->tracks); i++)
         same = same && a->tracks[i].channel == b->tracks[i].channel && a->tracks[i].count == b->tracks[i].count
             && memcmp(a->tracks[i].levels, b->tracks[i].levels, sizeof a->tracks[i].levels) == 0;
@@ -94,7 +94,7 @@ static int watch_handed_back(const royukezan_watch *damaged)
 {
     static const uint16_t list[] = {42, 42};
     const royukezan_watch_outcome outcomes[] = {
-        royukezan_watch_start_by_value(*damaged, UINT16_MAX),
+        royukezan_watch_start_by_value(*damaged, UINT16_MAX, SIZE_MAX),
         royukezan_watch_new_list_by_value(*damaged, list, LENGTH(list)),
         royukezan_watch_move_to_by_value(*damaged, 118),
         royukezan_watch_file_heard_by_value(*damaged, 42, NAN, 0.0f),
@@ -113,16 +113,17 @@ static int watch_refused(const royukezan_watch *damaged)
     royukezan_verdict_answer verdict = royukezan_watch_verdict(damaged, -1);
     return is_9(levels.refusal) && levels.count == 0 && levels.mean == 0
         && is_9(verdict.refusal) && verdict.verdict == 0 && verdict.channel == 0
-        && is_9(royukezan_watch_check(damaged)) && is_9(royukezan_watch_start(&lent, 310)) && is_9(royukezan_watch_new_list(&lent, NULL, 0))
-        && is_9(royukezan_watch_move_to(&lent, 42)) && is_9(royukezan_watch_file_heard(&lent, 42, -94.2f, 9.1f))
-        && is_9(royukezan_watch_file_missed(&lent, 42)) && same_watch(&lent, damaged) && watch_handed_back(damaged);
+        && is_9(royukezan_watch_check(damaged)) && is_9(royukezan_watch_start(&lent, 310, 15))
+        && is_9(royukezan_watch_new_list(&lent, NULL, 0)) && is_9(royukezan_watch_move_to(&lent, 42))
+        && is_9(royukezan_watch_file_heard(&lent, 42, -94.2f, 9.1f)) && is_9(royukezan_watch_file_missed(&lent, 42))
+        && same_watch(&lent, damaged) && watch_handed_back(damaged);
 }
 
-/* A watch with channel 310 serving, neighbour 42 with two levels and neighbour 118 with none. */
+/* A watch of depth 15 with channel 310 serving, neighbour 42 with two levels and neighbour 118 with none. */
 static int sound_watch(royukezan_watch *w)
 {
     static const uint16_t list[] = {42, 118};
-    uint32_t refusal = royukezan_watch_start(w, 310);
+    uint32_t refusal = royukezan_watch_start(w, 310, 15);
     refusal |= royukezan_watch_new_list(w, list, LENGTH(list));
     refusal |= royukezan_watch_file_heard(w, 42, -94.2f, 9.1f);
     refusal |= royukezan_watch_file_heard(w, 42, -94.2f, 9.1f);
@@ -132,23 +133,31 @@ static int sound_watch(royukezan_watch *w)
 static int damaged_watches_refused(void)
 {
     static const struct {
-        size_t watched, track;
+        size_t watched, depth, track;
         uint16_t channel;
         size_t count, place;
-        int32_t level;
+        int16_t level;
     } damages[] = {
-        {8, 1, 42, 2, 0, -9420}, {SIZE_MAX, 1, 42, 2, 0, -9420}, /* more tracks than there are */
-        {2, 1, 42, 2, 0, -9420}, {0, 1, 42, 2, 0, -9420}, /* a track that is not in use and not all zeros */
-        {3, 5, 7, 0, 0, 0}, {3, 5, 0, 1, 0, 0}, {3, 5, 0, 0, 0, -1},
-        {3, 1, 1088, 2, 0, -9420}, {3, 1, 310, 2, 0, -9420}, {3, 1, 118, 2, 0, -9420}, /* a channel above 1,087; a repeat */
-        {3, 1, 42, 16, 0, -9420}, {3, 1, 42, SIZE_MAX, 0, -9420}, /* more levels than 15 */
-        {3, 1, 42, 2, 0, 1}, {3, 1, 42, 2, 1, -15001}, {3, 1, 42, 2, 2, -1}, /* a level out of range, or after the last */
+        {8, 15, 1, 42, 2, 0, -9420}, {SIZE_MAX, 15, 1, 42, 2, 0, -9420}, /* more tracks than there are */
+        {2, 15, 1, 42, 2, 0, -9420}, {0, 15, 1, 42, 2, 0, -9420}, /* a track that is not in use and not all zeros */
+        {3, 15, 5, 7, 0, 0, 0}, {3, 15, 5, 0, 1, 0, 0}, {3, 15, 5, 0, 0, 0, -1}, {3, 15, 6, 0, 0, 30, -1}, {3, 15, 6, 0, 0, 31, -1},
+        {3, 15, 1, 1088, 2, 0, -9420}, {3, 15, 1, 310, 2, 0, -9420}, {3, 15, 1, 118, 2, 0, -9420}, /* a channel above 1,087; a repeat */
+        {3, 4, 1, 42, 2, 0, -9420}, {3, 32, 1, 42, 2, 0, -9420}, {3, SIZE_MAX, 1, 42, 2, 0, -9420}, /* a depth outside 5 to 31 */
+        {3, 5, 1, 42, 6, 0, -9420}, {3, 15, 1, 42, 16, 0, -9420}, {3, 30, 1, 42, 31, 0, -9420}, /* more levels than the depth */
+        {3, 15, 0, 310, 16, 0, -9420}, {3, 15, 2, 118, 16, 0, -9420}, {3, 0, 1, 42, 2, 0, -9420},
+        {3, 31, 1, 42, 32, 0, -9420}, {3, 15, 1, 42, SIZE_MAX, 0, -9420}, {3, SIZE_MAX, 1, 42, SIZE_MAX, 0, -9420},
+        {3, 31, 1, 42, 32, 31, -9420}, {3, 32, 1, 42, 32, 31, -9420}, /* as many as there are places */
+        {3, 15, 1, 42, 2, 0, 1}, {3, 15, 1, 42, 2, 1, -15001}, /* a level out of range */
+        {3, 15, 1, 42, 2, 0, INT16_MIN}, {3, 15, 1, 42, 2, 1, INT16_MAX}, {3, 31, 1, 42, 31, 30, INT16_MIN},
+        {3, 15, 1, 42, 2, 2, -1}, {3, 15, 1, 42, 2, 15, -1}, {3, 15, 1, 42, 2, 30, -1}, {3, 31, 1, 42, 2, 30, -1}, /* one after the last */
+        {3, 15, 1, 42, 2, 31, -1}, {3, 31, 1, 42, 30, 30, -1}, {3, 31, 1, 42, 31, 31, -1}, {3, 31, 1, 42, 31, 31, INT16_MAX},
     };
     for (size_t i = 0; i < LENGTH(damages); i++) {
         royukezan_watch w = royukezan_watch_fresh();
         if (!sound_watch(&w))
             return 0;
         w.watched = damages[i].watched;
+        w.depth = damages[i].depth;
         w.tracks[damages[i].track].channel = damages[i].channel;
         w.tracks[damages[i].track].count = damages[i].count;
         w.tracks[damages[i].track].levels[damages[i].place] = damages[i].level;
@@ -156,6 +165,81 @@ static int damaged_watches_refused(void)
             return 0;
     }
     return 1;
+}
+
+/* A watch without levels, started or idle, that holds this depth is not well formed. */
+static int depth_refused(int started, size_t depth)
+{
+    royukezan_watch w = royukezan_watch_fresh();
+    if (started && royukezan_watch_start(&w, 310, 15) != ROYUKEZAN_ACCEPTED)
+        return 0;
+    w.depth = depth;
+    return watch_refused(&w);
+}
+
+/* An idle watch is all zero, and holds no depth; one that was started holds 5 to 31. */
+static int depths_refused(void)
+{
+    static const size_t idle[] = {1, 4, 5, 15, 31, 32, SIZE_MAX}, started[] = {0, 1, 4, 32, SIZE_MAX};
+    int refused = 1;
+    for (size_t i = 0; i < LENGTH(idle); i++)
+        refused = refused && depth_refused(0, idle[i]);
+    for (size_t i = 0; i < LENGTH(started); i++)
+        refused = refused && depth_refused(1, started[i]);
+    return refused;
+}
+
+/* A start that is refused so: both forms leave or hand back the watch as it was. */
+static int watch_start_refused(const royukezan_watch *w, uint16_t serving, size_t depth, uint32_t refusal)
+{
+    royukezan_watch lent = *w;
+    royukezan_watch_outcome o = royukezan_watch_start_by_value(*w, serving, depth);
+    return royukezan_watch_start(&lent, serving, depth) == refusal && same_watch(&lent, w)
+        && o.refusal == refusal && same_watch(&o.watch, w);
+}
+
+/* On a fresh watch and on a sound one: 7 for a depth, also where the channel is none, then 2 for the channel. */
+static int watch_starts_refused(void)
+{
+    static const size_t wrong[] = {0, 4, 32, 255, (size_t)UINT32_MAX + 16, SIZE_MAX};
+    royukezan_watch watches[2] = {royukezan_watch_fresh(), royukezan_watch_fresh()};
+    int refused = sound_watch(&watches[1]);
+    for (size_t i = 0; i < LENGTH(watches); i++) {
+        for (size_t j = 0; j < LENGTH(wrong); j++)
+            refused = refused && watch_start_refused(&watches[i], 310, wrong[j], ROYUKEZAN_PARAMETER_OUT_OF_RANGE)
+                && watch_start_refused(&watches[i], 1088, wrong[j], ROYUKEZAN_PARAMETER_OUT_OF_RANGE)
+                && watch_start_refused(&watches[i], UINT16_MAX, wrong[j], ROYUKEZAN_PARAMETER_OUT_OF_RANGE);
+        for (size_t depth = ROYUKEZAN_DEPTH_LOWEST; depth <= ROYUKEZAN_DEPTH_HIGHEST; depth++)
+            refused = refused && watch_start_refused(&watches[i], 1088, depth, ROYUKEZAN_CHANNEL_OUT_OF_RANGE);
+    }
+    return refused;
+}
+
+/* A watch started with this depth, from whatever it was: the depth stays through a list, filings and a move; a channel keeps so many levels,
+ * and the verdict waits for as many. */
+static int has_depth(royukezan_watch *w, size_t depth)
+{
+    static const uint16_t list[] = {42, 118};
+    int holds = royukezan_watch_start(w, 310, depth) == ROYUKEZAN_ACCEPTED && w->depth == depth && w->watched == 1
+        && royukezan_watch_new_list(w, list, LENGTH(list)) == ROYUKEZAN_ACCEPTED;
+    for (size_t i = 0; i < depth; i++)
+        holds = holds && royukezan_watch_verdict(w, 0).verdict == ROYUKEZAN_VERDICT_WAIT && royukezan_watch_ask(w, 310).count == i
+            && royukezan_watch_file_heard(w, 310, -98.5f, 7.2f) == ROYUKEZAN_ACCEPTED
+            && royukezan_watch_file_heard(w, 42, -94.2f, 9.1f) == ROYUKEZAN_ACCEPTED;
+    return holds && royukezan_watch_verdict(w, 430).verdict == ROYUKEZAN_VERDICT_STAY
+        && royukezan_watch_verdict(w, 429).verdict == ROYUKEZAN_VERDICT_MOVE
+        && royukezan_watch_file_heard(w, 310, -98.5f, 7.2f) == ROYUKEZAN_ACCEPTED && royukezan_watch_ask(w, 310).count == depth
+        && royukezan_watch_move_to(w, 42) == ROYUKEZAN_ACCEPTED && royukezan_watch_ask(w, 310).count == depth
+        && w->depth == depth && royukezan_watch_check(w) == ROYUKEZAN_ACCEPTED;
+}
+
+static int depths_are_kept(void)
+{
+    royukezan_watch w = royukezan_watch_fresh();
+    int kept = 1;
+    for (size_t depth = ROYUKEZAN_DEPTH_LOWEST; depth <= ROYUKEZAN_DEPTH_HIGHEST; depth++)
+        kept = kept && has_depth(&w, depth);
+    return kept;
 }
 
 
@@ -326,8 +410,11 @@ static int refusals_have_names(void)
         && royukezan_sweep_file_missed(&s, ROYUKEZAN_SWEEP_LAST) == ROYUKEZAN_ACCEPTED
         && royukezan_sweep_file_missed(&s, ROYUKEZAN_SWEEP_LAST) == ROYUKEZAN_CHANNEL_VISITED
         && royukezan_choose(&s, 300, outcomes, sizeof outcomes).refusal == ROYUKEZAN_SWEEP_UNFINISHED
-        && royukezan_watch_start(&w, ROYUKEZAN_CHANNELS) == ROYUKEZAN_CHANNEL_OUT_OF_RANGE
-        && royukezan_watch_start(&w, ROYUKEZAN_CHANNELS - 1) == ROYUKEZAN_ACCEPTED
+        && royukezan_watch_start(&w, ROYUKEZAN_CHANNELS, ROYUKEZAN_DEPTH_LOWEST) == ROYUKEZAN_CHANNEL_OUT_OF_RANGE
+        && royukezan_watch_start(&w, ROYUKEZAN_CHANNELS - 1, ROYUKEZAN_DEPTH_LOWEST - 1) == ROYUKEZAN_PARAMETER_OUT_OF_RANGE
+        && royukezan_watch_start(&w, ROYUKEZAN_CHANNELS - 1, ROYUKEZAN_DEPTH_HIGHEST + 1) == ROYUKEZAN_PARAMETER_OUT_OF_RANGE
+        && royukezan_watch_start(&w, ROYUKEZAN_CHANNELS - 1, ROYUKEZAN_DEPTH_LOWEST) == ROYUKEZAN_ACCEPTED
+        && royukezan_watch_start(&w, ROYUKEZAN_CHANNELS - 1, ROYUKEZAN_DEPTH_HIGHEST) == ROYUKEZAN_ACCEPTED
         && royukezan_watch_new_list(&w, list, ROYUKEZAN_LIST_LIMIT + 1) == ROYUKEZAN_LIST_FAULTY
         && royukezan_watch_new_list(&w, list, ROYUKEZAN_LIST_LIMIT) == ROYUKEZAN_ACCEPTED;
 }
@@ -340,6 +427,9 @@ const char *beyond_sessions(void)
     } tries[] = {
         {damaged_sweeps_refused, "a sweep that is not well formed is not refused as it should be"},
         {damaged_watches_refused, "a watch that is not well formed is not refused as it should be"},
+        {depths_refused, "a watch that holds a wrong depth is not refused as it should be"},
+        {watch_starts_refused, "a start of a watch that is refused is not refused as it should be, or changes the watch"},
+        {depths_are_kept, "a watch does not keep the depth of its start"},
         {damaged_power_refused, "a power record that is not well formed is not refused as it should be"},
         {start_refused, "a power start or step that is refused does not leave the record as it should"},
         {steps_agree, "a power step by value is not the step on a lent record"},

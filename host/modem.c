@@ -11,6 +11,7 @@
 
 #define LONGEST_LINE 200
 #define MOST_WORDS 9
+#define RECORDED_DEPTH 15 /* of a start that names none: recorded sessions have such lines */
 
 /* What a session keeps from line to line. All zeros, it is a session that begins. */
 typedef struct {
@@ -158,9 +159,11 @@ static void choose(session *s, const numbers *n)
         printf("%s %u tried %" PRIu32 "\n", a.choice == ROYUKEZAN_CHOICE_CAMP ? "camp" : "read", a.channel, a.tried);
 }
 
+/* With a depth or without. */
 static void start(session *s, const numbers *n)
 {
-    say_accepted(royukezan_watch_start(&s->watch, (uint16_t)n->wholes[0]));
+    size_t depth = n->whole_count > 1 ? (size_t)n->wholes[1] : RECORDED_DEPTH;
+    say_accepted(royukezan_watch_start(&s->watch, (uint16_t)n->wholes[0], depth));
 }
 
 static void new_list(session *s, const numbers *n)
@@ -271,6 +274,7 @@ static const struct {
     {{"outcome", "CH1087", "BYTE"}, outcome},
     {{"choose", "INT"}, choose},
     {{"start", "CH"}, start},
+    {{"start", "CH", "BYTE"}, start},
     {{"list", REPEATED}, new_list},
     {{"move", "CH"}, move_to},
     {{"file", "CH", "heard", "NUM", "NUM"}, file_heard},

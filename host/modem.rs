@@ -72,7 +72,14 @@ const CALLS: [(&[&str], Call); 21] = [
         accepted(Ok(()))
     }),
     (&["choose"], |t, words| Some(choose(&t.sweep, whole(one(words)?)?, &t.outcomes).map(choice_text))),
-    (&["start"], |t, words| accepted(t.watch.start(whole(one(words)?)?))),
+    (&["start"], |t, words| {
+        let (serving, depth) = match words {
+            [serving] => (serving, RECORDED_DEPTH),
+            [serving, depth] => (serving, whole(depth)?),
+            _ => return None,
+        };
+        accepted(t.watch.start(whole(serving)?, depth.into()))
+    }),
     (&["list"], |t, words| {
         let list: Option<Vec<u16>> = words.iter().map(|word| whole(word)).collect();
         accepted(t.watch.new_list(&list.filter(|list| list.len() <= LIST_WORDS)?))
@@ -105,6 +112,9 @@ const CALLS: [(&[&str], Call); 21] = [
         Some(t.power.step_decoded(t.parameters, pan, par, sqi).map(sent_text))
     }),
 ];
+
+/// The depth of a start that names none: recorded sessions have such lines.
+const RECORDED_DEPTH: u8 = 15;
 
 /// How many channels a line may list; a list of more than 6 is refused.
 const LIST_WORDS: usize = 8;
@@ -310,20 +320,35 @@ fn damaged_sweeps_are_refused() -> bool {
     )
 }
 
+/// The sound one has channel 0 alone, without levels, so that it is all zero but for its first number and its depth.
 fn damaged_watches_are_refused() -> bool {
-    all_refused(
-        Watch::fresh(),
+    let mut sound = Watch::fresh();
+    let started = sound.start(0, 15);
+    let refused = all_refused(
+        sound,
         &[
             |w| w.watched = 8,
             |w| w.watched = 2,
-            |w| (w.watched, w.tracks[0].channel) = (1, 1_088),
-            |w| (w.watched, w.tracks[0].count) = (1, 16),
-            |w| (w.watched, w.tracks[0].levels[0]) = (1, -1),
-            |w| w.tracks[6].levels[14] = -1,
+            |w| w.watched = 0,
+            |w| w.depth = 0,
+            |w| w.depth = 4,
+            |w| w.depth = 32,
+            |w| w.depth = usize::MAX,
+            |w| w.tracks[0].channel = 1_088,
+            |w| w.tracks[0].count = 16,
+            |w| (w.depth, w.tracks[0].count) = (31, 32),
+            |w| w.tracks[0].levels[0] = -1,
+            |w| w.tracks[0].levels[30] = -1,
+            |w| w.tracks[0].levels[31] = -1,
+            |w| w.tracks[6].levels[30] = -1,
+            |w| w.tracks[6].levels[31] = -1,
+            |w| (w.tracks[0].count, w.tracks[0].levels[0]) = (1, i16::MIN),
+            |w| (w.tracks[0].count, w.tracks[0].levels[0]) = (1, i16::MAX),
+            |w| (w.depth, w.tracks[0].count, w.tracks[0].levels[31]) = (31, 31, -1),
         ],
         &[
             |w| w.check(),
-            |w| w.start(1_088),
+            |w| w.start(1_088, 32),
             |w| w.new_list(&[1_088]),
             |w| w.move_to(0),
             |w| w.file_heard(0, f32::NAN, f32::NAN),
@@ -331,7 +356,8 @@ fn damaged_watches_are_refused() -> bool {
             |w| w.ask(0).map(drop),
             |w| w.verdict(-1).map(drop),
         ],
-    )
+    );
+    started.is_ok() && refused
 }
 
 fn damaged_power_records_are_refused() -> bool {

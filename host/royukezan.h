@@ -11,7 +11,7 @@
  * plain name stands what a host usually calls, a `static inline` function that takes a pointer to the host's own record:
  *
  *     royukezan_watch w = royukezan_watch_fresh();
- *     if (royukezan_watch_start(&w, 310) != ROYUKEZAN_ACCEPTED)
+ *     if (royukezan_watch_start(&w, 310, 15) != ROYUKEZAN_ACCEPTED)
  *         return;
  *
  * Accepted, the record is changed there; refused, nothing is written. A call that only reads takes a pointer to const. These few lines are C
@@ -22,8 +22,8 @@
  * number, then the values, 0 when refused. Every value of every argument is taken, and every call ends. The functions allocate nothing and
  * keep nothing between calls.
  *
- * Units. A level or quality as a float is in dBm or dB; in an int32_t it is in whole hundredths of a dB, and so are a margin, a hysteresis
- * and an SQI. PAN and PAR are codes, by 0.4 dB.
+ * Units. A level or quality as a float is in dBm or dB; in an int32_t, or in the int16_t of a track, it is in whole hundredths of a dB, and so
+ * are a margin, a hysteresis and an SQI. PAN and PAR are codes, by 0.4 dB.
  *
  * A channel is a uint16_t, and C cuts a larger number to 16 bits without a word: 65,846 arrives as 310 and is taken for it. Test wider numbers
  * before the call; gcc -Wconversion shows the places.
@@ -55,11 +55,13 @@
 extern "C" {
 #endif
 
-#define ROYUKEZAN_CHANNELS 1088   /* channel numbers run from 0 to 1,087 */
-#define ROYUKEZAN_SWEEP_FIRST 2   /* the sweep visits channels 2 .. */
-#define ROYUKEZAN_SWEEP_LAST 1086 /* .. to 1,086 */
-#define ROYUKEZAN_LIST_LIMIT 6    /* the most neighbours in a list */
-#define ROYUKEZAN_LEVELS 15       /* the most levels that a watched channel keeps */
+#define ROYUKEZAN_CHANNELS 1088    /* channel numbers run from 0 to 1,087 */
+#define ROYUKEZAN_SWEEP_FIRST 2    /* the sweep visits channels 2 .. */
+#define ROYUKEZAN_SWEEP_LAST 1086  /* .. to 1,086 */
+#define ROYUKEZAN_LIST_LIMIT 6     /* the most neighbours in a list */
+#define ROYUKEZAN_DEPTH_LOWEST 5   /* the depth of a watch, how many of a channel's levels count, is 5 .. */
+#define ROYUKEZAN_DEPTH_HIGHEST 31 /* .. to 31 */
+#define ROYUKEZAN_LEVELS 32        /* the places that a track has for levels, at least the highest depth */
 
 /* The refusal numbers, each given exactly when what stands beside it holds. Several at once: 9, 8, 7, 2, 5, 6, 3, 4, 1. */
 enum royukezan_refusal {
@@ -71,7 +73,8 @@ enum royukezan_refusal {
     ROYUKEZAN_LIST_FAULTY = 5,            /* a list with over 6 channels, one above 1,087, a repeat, or the serving channel */
     ROYUKEZAN_NOT_WATCHED = 6,            /* a filed or asked channel not watched; a move to a channel not in the list; new list or
                                              verdict on an idle watch */
-    ROYUKEZAN_PARAMETER_OUT_OF_RANGE = 7, /* a margin, hysteresis or power parameter out of range; PANmin above PANmax; a code above 63 */
+    ROYUKEZAN_PARAMETER_OUT_OF_RANGE = 7, /* a margin, hysteresis or power parameter out of range; PANmin above PANmax; a code above 63;
+                                             a depth outside 5 to 31 */
     ROYUKEZAN_OUTCOMES_FAULTY = 8,        /* outcome string not 1,088 long, or a byte above 5 */
     ROYUKEZAN_RECORD_NOT_WELL_FORMED = 9  /* a record not well formed */
 };
@@ -105,14 +108,16 @@ typedef struct royukezan_sweep {
 /* A channel under watch, with its levels. */
 typedef struct royukezan_track {
     uint16_t channel;
-    size_t count;                     /* how many levels it has */
-    int32_t levels[ROYUKEZAN_LEVELS]; /* hundredths, oldest first */
+    size_t count;                     /* how many levels it has, at most the depth */
+    int16_t levels[ROYUKEZAN_LEVELS]; /* hundredths, oldest first; 0 from the count on */
 } royukezan_track;
 
-/* A watch. Well formed: exactly when some sequence of calls, from a fresh watch, leaves that record. */
+/* A watch. Well formed: exactly when some sequence of calls, from a fresh watch, leaves that record. So an idle one is the fresh one, all
+ * zero. */
 typedef struct royukezan_watch {
     size_t watched;                                   /* how many tracks are in use; 0: the watch is idle */
     royukezan_track tracks[1 + ROYUKEZAN_LIST_LIMIT]; /* the serving channel, then the neighbours in the list's order */
+    size_t depth;                                     /* given at the start, 5 to 31; 0: the watch is idle */
 } royukezan_watch;
 
 /* The power parameters, as codes. They are given at the start and again at every step; the record does not hold them. */
@@ -181,7 +186,7 @@ typedef struct royukezan_choice_answer {
 /* The levels of a watched channel. */
 typedef struct royukezan_levels_answer {
     uint32_t refusal;
-    uint32_t count; /* 0 to 15 */
+    uint32_t count; /* 0 to the depth */
     int32_t mean;   /* hundredths, rounded down; 0 for a count of 0 */
 } royukezan_levels_answer;
 
@@ -238,9 +243,10 @@ ROYUKEZAN_SIZE(track, 80);
 ROYUKEZAN_OFFSET(track, channel, 0);
 ROYUKEZAN_OFFSET(track, count, 8);
 ROYUKEZAN_OFFSET(track, levels, 16);
-ROYUKEZAN_SIZE(watch, 568);
+ROYUKEZAN_SIZE(watch, 576);
 ROYUKEZAN_OFFSET(watch, watched, 0);
 ROYUKEZAN_OFFSET(watch, tracks, 8);
+ROYUKEZAN_OFFSET(watch, depth, 568);
 ROYUKEZAN_SIZE(power_parameters, 28);
 ROYUKEZAN_OFFSET(power_parameters, sqt, 0);
 ROYUKEZAN_OFFSET(power_parameters, paninit, 4);
@@ -292,7 +298,7 @@ ROYUKEZAN_OFFSET(sent_answer, pan, 8);
 ROYUKEZAN_SIZE(sweep_outcome, 4632);
 ROYUKEZAN_OFFSET(sweep_outcome, refusal, 0);
 ROYUKEZAN_OFFSET(sweep_outcome, sweep, 8);
-ROYUKEZAN_SIZE(watch_outcome, 576);
+ROYUKEZAN_SIZE(watch_outcome, 584);
 ROYUKEZAN_OFFSET(watch_outcome, refusal, 0);
 ROYUKEZAN_OFFSET(watch_outcome, watch, 8);
 ROYUKEZAN_SIZE(power_outcome, 20);
@@ -340,7 +346,7 @@ royukezan_counts_answer royukezan_sweep_counts_by_value(royukezan_sweep s);
 uint32_t royukezan_sweep_check_by_value(royukezan_sweep s);
 royukezan_choice_answer royukezan_choose_by_value(royukezan_sweep s, int32_t margin, const uint8_t *outcomes, size_t length);
 
-royukezan_watch_outcome royukezan_watch_start_by_value(royukezan_watch w, uint16_t serving);
+royukezan_watch_outcome royukezan_watch_start_by_value(royukezan_watch w, uint16_t serving, size_t depth);
 royukezan_watch_outcome royukezan_watch_new_list_by_value(royukezan_watch w, const uint16_t *list, size_t length);
 royukezan_watch_outcome royukezan_watch_move_to_by_value(royukezan_watch w, uint16_t channel);
 royukezan_watch_outcome royukezan_watch_file_heard_by_value(royukezan_watch w, uint16_t channel, float level, float quality);
@@ -416,18 +422,18 @@ static inline royukezan_choice_answer royukezan_choose(const royukezan_sweep *s,
 /* An idle watch. */
 royukezan_watch royukezan_watch_fresh(void);
 
-/* Starts: the channel, 0 to 1,087, serves alone, without levels; an earlier watch and its levels are forgotten. Writes *w when accepted.
- * Refusals 9, 2. */
-static inline uint32_t royukezan_watch_start(royukezan_watch *w, uint16_t serving)
+/* Starts: the channel, 0 to 1,087, serves alone, without levels; an earlier watch and its levels are forgotten. The depth, 5 to 31, is how many
+ * of a channel's levels count, the newest; it stays until the next accepted start. Writes *w when accepted. Refusals 9, 7, 2. */
+static inline uint32_t royukezan_watch_start(royukezan_watch *w, uint16_t serving, size_t depth)
 {
-    royukezan_watch_outcome o = royukezan_watch_start_by_value(*w, serving);
+    royukezan_watch_outcome o = royukezan_watch_start_by_value(*w, serving, depth);
     if (o.refusal == ROYUKEZAN_ACCEPTED)
         *w = o.watch;
     return o.refusal;
 }
 
 /* Replaces the neighbours by a list of 0 to 6 channels. A channel that was watched keeps its levels, whichever place it moves to; a dropped one
- * loses them; a new one has none. Writes *w when accepted. Refusals 9, 5, 6. */
+ * loses them; a new one has none. The depth stays. Writes *w when accepted. Refusals 9, 5, 6. */
 static inline uint32_t royukezan_watch_new_list(royukezan_watch *w, const uint16_t *list, size_t length)
 {
     const uint16_t none = 0;
@@ -437,8 +443,8 @@ static inline uint32_t royukezan_watch_new_list(royukezan_watch *w, const uint16
     return o.refusal;
 }
 
-/* Moves to a neighbour: it serves now, and the channel that served takes its place in the list; both keep their levels. Writes *w when accepted.
- * Refusals 9, 6. */
+/* Moves to a neighbour: it serves now, and the channel that served takes its place in the list; both keep their levels, and the depth stays.
+ * Writes *w when accepted. Refusals 9, 6. */
 static inline uint32_t royukezan_watch_move_to(royukezan_watch *w, uint16_t channel)
 {
     royukezan_watch_outcome o = royukezan_watch_move_to_by_value(*w, channel);
@@ -447,8 +453,8 @@ static inline uint32_t royukezan_watch_move_to(royukezan_watch *w, uint16_t chan
     return o.refusal;
 }
 
-/* Files a heard burst, level in dBm and quality in dB, under a watched channel: the level is its newest, and beyond 15 the oldest goes. The
- * quality is tested alone. Writes *w when accepted. Refusals 9, 6, 1. */
+/* Files a heard burst, level in dBm and quality in dB, under a watched channel: the level is its newest, and beyond the depth the oldest
+ * goes. The quality is tested alone. Writes *w when accepted. Refusals 9, 6, 1. */
 static inline uint32_t royukezan_watch_file_heard(royukezan_watch *w, uint16_t channel, float level, float quality)
 {
     royukezan_watch_outcome o = royukezan_watch_file_heard_by_value(*w, channel, level, quality);
@@ -472,9 +478,9 @@ static inline royukezan_levels_answer royukezan_watch_ask(const royukezan_watch 
     return royukezan_watch_ask_by_value(*w, channel);
 }
 
-/* Wait while the serving channel has fewer than 15 levels; else move to the best neighbour that counts, or stay where none does. One counts if
- * it has 15 levels and their sum exceeds the serving channel's by more than 15 times the hysteresis, 0 to 6,000 hundredths; the best has the
- * greatest sum, and the lowest channel number among equals. Writes nothing. Refusals 9, 7, 6. */
+/* Wait while the serving channel has fewer levels than the depth; else move to the best neighbour that counts, or stay where none does. One
+ * counts if it has as many levels as the depth and their sum exceeds the serving channel's by more than the depth times the hysteresis, 0 to
+ * 6,000 hundredths; the best has the greatest sum, and the lowest channel number among equals. Writes nothing. Refusals 9, 7, 6. */
 static inline royukezan_verdict_answer royukezan_watch_verdict(const royukezan_watch *w, int32_t hysteresis)
 {
     return royukezan_watch_verdict_by_value(*w, hysteresis);
@@ -531,12 +537,12 @@ royukezan_sent_answer royukezan_power_step_failed(royukezan_power_record *r, roy
  *     royukezan_sweep_check             9300   9300
  *     royukezan_choose                 13800  13800
  *     royukezan_watch_fresh              700
- *     royukezan_watch_start             1900   1900
+ *     royukezan_watch_start             2000   1900
  *     royukezan_watch_new_list          2800   2800
- *     royukezan_watch_move_to           2400   2400
- *     royukezan_watch_file_heard        3800   3700
- *     royukezan_watch_file_missed       3800   3700
- *     royukezan_watch_ask               1300   1300
+ *     royukezan_watch_move_to           2500   2500
+ *     royukezan_watch_file_heard        3800   3800
+ *     royukezan_watch_file_missed       3800   3800
+ *     royukezan_watch_ask               1400   1400
  *     royukezan_watch_verdict           1400   1400
  *     royukezan_watch_check              700    700
  *     royukezan_power_start              200    100

@@ -61,8 +61,8 @@ CALL(sweep_check_v, kept = royukezan_sweep_check_by_value(finished))
 CALL(choose, kept = royukezan_choose(&finished, 6000, outcomes, sizeof outcomes).refusal)
 CALL(choose_v, kept = royukezan_choose_by_value(finished, 6000, outcomes, sizeof outcomes).refusal)
 CALL(watch_fresh, kept_watch.watch = royukezan_watch_fresh())
-CALL(watch_start, kept = royukezan_watch_start(&watch, 310))
-CALL(watch_start_v, kept_watch = royukezan_watch_start_by_value(watch, 310))
+CALL(watch_start, kept = royukezan_watch_start(&watch, 310, ROYUKEZAN_DEPTH_HIGHEST))
+CALL(watch_start_v, kept_watch = royukezan_watch_start_by_value(watch, 310, ROYUKEZAN_DEPTH_HIGHEST))
 CALL(watch_new_list, kept = royukezan_watch_new_list(&watch, list, ROYUKEZAN_LIST_LIMIT))
 CALL(watch_new_list_v, kept_watch = royukezan_watch_new_list_by_value(watch, list, ROYUKEZAN_LIST_LIMIT))
 CALL(watch_move_to, kept = royukezan_watch_move_to(&watch, 42))
@@ -155,15 +155,15 @@ static size_t written(void (*call)(void))
     return sizeof stack.bytes - untouched;
 }
 
-/* A finished sweep that heard every channel, with none suitable, and a full watch. */
+/* A finished sweep that heard every channel, with none suitable, and a watch of the highest depth with two full channels. */
 static void prepare(void)
 {
     for (uint16_t channel = ROYUKEZAN_SWEEP_FIRST; channel <= ROYUKEZAN_SWEEP_LAST; channel++)
         royukezan_sweep_file_heard(&finished, channel, -94.2f, 9.1f);
     memset(outcomes, ROYUKEZAN_OUTCOME_BARRED, sizeof outcomes);
-    royukezan_watch_start(&evening, 310);
+    royukezan_watch_start(&evening, 310, ROYUKEZAN_DEPTH_HIGHEST);
     royukezan_watch_new_list(&evening, list, ROYUKEZAN_LIST_LIMIT);
-    for (int i = 0; i < ROYUKEZAN_LEVELS; i++) {
+    for (int i = 0; i < ROYUKEZAN_DEPTH_HIGHEST; i++) {
         royukezan_watch_file_heard(&evening, 310, -98.5f, 7.2f);
         royukezan_watch_file_heard(&evening, 42, -94.2f, 9.1f);
     }

@@ -37,7 +37,7 @@ impl Call for SweepCall {
 
 #[derive(Debug)]
 pub enum WatchCall {
-    Start(u16),
+    Start(u16, usize),
     NewList(Vec<u16>),
     MoveTo(u16),
     File(u16, Burst),
@@ -52,7 +52,7 @@ impl Call for WatchCall {
 
     fn make<L: Library>(&self, watch: &mut L::Watch) -> u64 {
         match *self {
-            WatchCall::Start(serving) => told(L::start(watch, serving)),
+            WatchCall::Start(serving, depth) => told(L::start(watch, serving, depth)),
             WatchCall::NewList(ref list) => told(L::new_list(watch, list)),
             WatchCall::MoveTo(channel) => told(L::move_to(watch, channel)),
             WatchCall::File(channel, burst) => told(L::file(watch, channel, burst)),

@@ -200,7 +200,8 @@ fn compare_watches(compared: &mut Compared) {
     }
 }
 
-/// Verdicts and means where sums are equal, or apart by a hysteresis exactly.
+/// Verdicts and means of every depth where sums are equal, or apart by a hysteresis exactly; then each call, a filing
+/// where the oldest level goes among them.
 fn compare_close_watches(compared: &mut Compared) {
     let dice = Dice::new(18);
     for _ in 0..20_000 {
@@ -210,6 +211,9 @@ fn compare_close_watches(compared: &mut Compared) {
         }
         for channel in 0..9 {
             pair.call(compared, &WatchCall::Ask(channel));
+        }
+        for call in made_up::watch_calls(&dice) {
+            pair.call(compared, &call);
         }
     }
 }

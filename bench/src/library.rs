@@ -43,7 +43,7 @@ pub trait Library {
     fn check_sweep(sweep: &Self::Sweep) -> Answer<()>;
     fn choose(sweep: &Self::Sweep, margin: i32, outcomes: &[u8]) -> Answer<Choice>;
 
-    fn start(watch: &mut Self::Watch, serving: u16) -> Answer<()>;
+    fn start(watch: &mut Self::Watch, serving: u16, depth: usize) -> Answer<()>;
     fn new_list(watch: &mut Self::Watch, list: &[u16]) -> Answer<()>;
     fn move_to(watch: &mut Self::Watch, channel: u16) -> Answer<()>;
     fn file(watch: &mut Self::Watch, channel: u16, burst: Burst) -> Answer<()>;

@@ -2,7 +2,10 @@
 
 use crate::calls::{PowerCall, SweepCall, WatchCall};
 use crate::dice::Dice;
-use crate::plain::{Burst, PowerParameters, PowerRecord, Sweep, Watch, CHANNELS, DEPTH, FIRST_SWEPT, LAST_SWEPT};
+use crate::plain::{
+    Burst, PowerParameters, PowerRecord, Sweep, Watch, CAPACITY, CHANNELS, DEPTH_HIGHEST, DEPTH_LOWEST, FIRST_SWEPT,
+    LAST_SWEPT,
+};
 
 /// Heard at so many hundredths, at 10 dB.
 pub fn heard(hundredths: i32) -> Burst {
@@ -20,11 +23,11 @@ pub fn burst(dice: &Dice) -> Burst {
     }
 }
 
+// Sweeps.
+
 /// Levels at and around the ends of the range, and where narrower numbers turn.
 const LEVELS: [i32; 14] =
     [i32::MIN, i32::MAX, -15_001, -15_000, -1, 0, 1, 32_767, 32_768, 65_536, -32_768, -32_769, -65_536, -80_536];
-
-// Sweeps.
 
 /// A sweep with so many of 8 channels visited, and so many of 8 of these heard, at levels from low to high.
 pub fn sweep(dice: &Dice, visited_in_8: u32, heard_in_8: u32, low: i32, high: i32) -> Sweep {
@@ -78,28 +81,57 @@ pub fn sweep_call(dice: &Dice, next: u16) -> SweepCall {
 
 // Watches.
 
+/// Numbers around the ends of the depth, and such as narrower numbers would take for a depth.
+const DEPTHS: [usize; 14] = [0, 1, 4, 5, 6, 15, 30, 31, 32, 33, 1 << 8 | 15, 1 << 32, 1 << 32 | 15, usize::MAX];
+
+/// Levels of a track at and around the ends of the range, and where the distance from an end does not fit 16 bits.
+const TRACK_LEVELS: [i16; 10] = [i16::MIN, -32_767, -15_001, -15_000, -1, 0, 1, 17_767, 17_768, i16::MAX];
+
+/// A depth of 5 to 31.
+fn depth(dice: &Dice) -> usize {
+    dice.between(DEPTH_LOWEST as i32, DEPTH_HIGHEST as i32) as usize
+}
+
+/// A depth that is mostly in range.
+fn any_depth(dice: &Dice) -> usize {
+    if dice.once_in(4) {
+        dice.one_of(&DEPTHS)
+    } else {
+        depth(dice)
+    }
+}
+
 /// The record with a number changed; now and then it is still well formed.
 pub fn damaged_watch(dice: &Dice, watch: &Watch) -> Watch {
     let mut damaged = watch.clone();
+    let depth = watch.depth;
     let track = &mut damaged.tracks[dice.below(7) as usize];
-    match dice.below(4) {
+    match dice.below(5) {
         0 => damaged.watched = dice.one_of(&[0, 1, 2, 3, 4, 5, 6, 7, 8, usize::MAX]),
-        1 => track.channel = dice.one_of(&[0, 1, 2, 3, 4, 5, 8, 1_087, 1_088, 65_535, 65_534, 65_530]),
-        2 => track.count = dice.one_of(&[0, 1, 14, 15, 16, usize::MAX, 1 << 32]),
-        _ => track.levels[dice.below(DEPTH as u32) as usize] = dice.one_of(&LEVELS),
+        1 => damaged.depth = dice.one_of(&[any_depth(dice), dice.one_of(&DEPTHS), track.count, track.count + 1]),
+        2 => track.channel = dice.one_of(&[0, 1, 2, 3, 4, 5, 8, 1_087, 1_088, 65_535, 65_534, 65_530]),
+        3 => track.count = dice.one_of(&[0, 1, depth, depth + 1, 14, 15, 16, 30, 31, 32, 33, usize::MAX, 1 << 32]),
+        _ => {
+            // The count of a sound watch is a place, too.
+            let place = dice.one_of(&[dice.below(CAPACITY as u32) as usize, track.count, CAPACITY - 2, CAPACITY - 1]);
+            track.levels[place] = dice.one_of(&TRACK_LEVELS);
+        }
     }
     damaged
 }
 
-/// A watch whose channels have few different levels, so that sums are equal or apart by a hysteresis exactly.
+/// A watch of any depth whose channels have few different levels, so that sums are equal or apart by a hysteresis
+/// exactly, at the ends of the range too.
 pub fn close_watch(dice: &Dice) -> Watch {
     let mut watch = Watch::fresh();
     watch.watched = dice.between(1, 7) as usize;
+    watch.depth = depth(dice);
     let first = dice.below(9) as u16;
+    let lowest = dice.one_of(&[-14_999, -9_000, -201]);
     for (place, track) in watch.tracks[..watch.watched].iter_mut().enumerate() {
-        let level = -9_000 + 100 * dice.between(0, 2);
+        let level = lowest + 100 * dice.between(0, 2) as i16;
         track.channel = (first + 5 * place as u16) % 9;
-        track.count = if dice.once_in(10) { DEPTH - 1 } else { DEPTH };
+        track.count = if dice.once_in(10) { watch.depth - 1 } else { watch.depth };
         track.levels[..track.count].fill(level);
         track.levels[0] += dice.one_of(&[0, 0, 0, 1, -1]);
     }
@@ -120,11 +152,11 @@ fn list(dice: &Dice) -> Vec<u16> {
     list
 }
 
-/// Any call of a watch; most are filings.
+/// Any call of a watch; most are filings. Starts are few, so that channels come to all the levels of a high depth.
 pub fn watch_call(dice: &Dice) -> WatchCall {
     let channel = dice.one_of(&[0, 1, 2, 3, 4, 5, 6, 7, 8, 1_087, 1_088, 65_535]);
     match dice.below(200) {
-        0 => WatchCall::Start(channel),
+        0 if dice.once_in(2) => WatchCall::Start(channel, any_depth(dice)),
         1..=10 => WatchCall::NewList(list(dice)),
         11..=15 => WatchCall::MoveTo(channel),
         16..=45 => WatchCall::Verdict(margin(dice)),
@@ -145,7 +177,7 @@ pub fn watch_calls(dice: &Dice) -> [WatchCall; 8] {
         WatchCall::File(1_088, Burst::Missed),
         WatchCall::MoveTo(channel),
         WatchCall::NewList(list(dice)),
-        WatchCall::Start(dice.one_of(&[channel, 1_087, 1_088])),
+        WatchCall::Start(dice.one_of(&[channel, 1_087, 1_088]), any_depth(dice)),
     ]
 }
 

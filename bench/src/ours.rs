@@ -20,11 +20,11 @@ impl Record for royukezan::Watch {
     type Plain = Watch;
     fn of(plain: &Watch) -> royukezan::Watch {
         let track = |t: Track| watch::Track { channel: t.channel, count: t.count, levels: t.levels };
-        royukezan::Watch { watched: plain.watched, tracks: plain.tracks.map(track) }
+        royukezan::Watch { watched: plain.watched, tracks: plain.tracks.map(track), depth: plain.depth }
     }
     fn told(&self) -> Watch {
         let track = |t: watch::Track| Track { channel: t.channel, count: t.count, levels: t.levels };
-        Watch { watched: self.watched, tracks: self.tracks.map(track) }
+        Watch { watched: self.watched, tracks: self.tracks.map(track), depth: self.depth }
     }
 }
 
@@ -137,7 +137,7 @@ impl Library for Ours {
             royukezan::choose(sweep, margin, outcomes).map(plain_choice)
         }
 
-        start(watch: &mut Self::Watch, serving: u16) -> () { watch.start(serving) }
+        start(watch: &mut Self::Watch, serving: u16, depth: usize) -> () { watch.start(serving, depth) }
         new_list(watch: &mut Self::Watch, list: &[u16]) -> () { watch.new_list(list) }
         move_to(watch: &mut Self::Watch, channel: u16) -> () { watch.move_to(channel) }
         file(watch: &mut Self::Watch, channel: u16, burst: Burst) -> () { watch.file(channel, package_burst(burst)) }

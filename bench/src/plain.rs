@@ -343,8 +343,12 @@ fn first_open(sweep: &Sweep, margin: i32, outcomes: &[u8; CHANNELS]) -> Choice {
 
 // The watch.
 
-/// How many levels of a channel make a mean and a sum.
-pub const DEPTH: usize = 15;
+/// The depth of a watch, how many levels of a channel make a mean and a sum, is given at its start.
+pub const DEPTH_LOWEST: usize = 5;
+pub const DEPTH_HIGHEST: usize = 31;
+
+/// How many places a track has for levels. The highest depth leaves one, which is always 0.
+pub const CAPACITY: usize = 32;
 
 /// How many channels a list has at most, and a watch.
 const LIST_LIMIT: usize = 6;
@@ -355,14 +359,16 @@ const ROOM: usize = LIST_LIMIT + 1;
 pub struct Track {
     pub channel: u16,
     pub count: usize,
-    pub levels: [i32; DEPTH],
+    pub levels: [i16; CAPACITY],
 }
 
-/// The watch record: the first `watched` tracks are the serving channel and its list, the others all zero.
+/// The watch record: the first `watched` tracks are the serving channel and its list, the others all zero. An idle
+/// watch is all zero, its depth too.
 #[derive(Clone, Debug, PartialEq, Eq)]
 pub struct Watch {
     pub watched: usize,
     pub tracks: [Track; ROOM],
+    pub depth: usize,
 }
 
 /// Count and mean of a channel's levels.
@@ -379,14 +385,19 @@ pub enum Verdict {
     MoveTo(u16),
 }
 
+#[inline(always)]
+fn depth_in_range(depth: usize) -> bool {
+    (DEPTH_LOWEST..=DEPTH_HIGHEST).contains(&depth)
+}
+
 /// For each count, the lowest that each level of a track may be.
-const LOWEST: [[i32; DEPTH]; DEPTH + 1] = {
-    let mut lowest = [[0; DEPTH]; DEPTH + 1];
+const LOWEST: [[i16; CAPACITY]; DEPTH_HIGHEST + 1] = {
+    let mut lowest = [[0; CAPACITY]; DEPTH_HIGHEST + 1];
     let mut count = 0;
-    while count <= DEPTH {
+    while count <= DEPTH_HIGHEST {
         let mut k = 0;
         while k < count {
-            lowest[count][k] = LEVEL_LOWEST;
+            lowest[count][k] = LEVEL_LOWEST as i16;
             k += 1;
         }
         count += 1;
@@ -394,38 +405,43 @@ const LOWEST: [[i32; DEPTH]; DEPTH + 1] = {
     lowest
 };
 
+/// The levels of a track are tested and summed in two parts.
+const PART: usize = CAPACITY / 2;
+
 impl Track {
     const fn empty(channel: u16) -> Track {
-        Track { channel, count: 0, levels: [0; DEPTH] }
+        Track { channel, count: 0, levels: [0; CAPACITY] }
     }
 
-    /// Whether channel, count and levels are in range, and the levels beyond the count 0.
+    /// Raises each lane to how far a level of it lies outside, at most; beyond the count nothing but 0 lies inside.
     #[inline(always)]
-    fn is_fine(&self) -> bool {
-        if self.channel > HIGHEST_CHANNEL || self.count > DEPTH {
-            return false;
+    fn raise_outside(&self, outside: &mut [i16; PART]) {
+        let (levels, _) = self.levels.as_chunks::<PART>();
+        let (lowest, _) = LOWEST[self.count].as_chunks::<PART>();
+        for (levels, lowest) in levels.iter().zip(lowest) {
+            for k in 0..PART {
+                outside[k] = outside[k].max(levels[k]).max(lowest[k].saturating_sub(levels[k]));
+            }
         }
-        let lowest = &LOWEST[self.count];
-        // Its sign is set once a level lies outside.
-        let outside =
-            |any: i32, (&level, &lowest): (&i32, &i32)| any | 0_i32.wrapping_sub(level) | level.wrapping_sub(lowest);
-        self.levels.iter().zip(lowest).fold(0, outside) >= 0
     }
 
+    /// Two levels together fit 16 bits as well, so that half as many are widened.
     #[inline(always)]
     fn sum(&self) -> i32 {
-        self.levels.iter().sum()
+        let (first, second) = self.levels.split_at(PART);
+        first.iter().zip(second).map(|(one, other)| i32::from(one + other)).sum()
     }
 
-    /// Adds the newest level; beyond 15 the oldest goes.
+    /// Adds the newest level; beyond the depth the oldest goes.
     #[inline(always)]
-    fn push(&mut self, level: i32) {
-        if self.count < DEPTH {
+    fn push(&mut self, depth: usize, level: i16) {
+        if self.count < depth {
             self.levels[self.count] = level;
             self.count += 1;
         } else {
+            // All move, those beyond the depth too: they are 0.
             self.levels.copy_within(1.., 0);
-            self.levels[DEPTH - 1] = level;
+            self.levels[depth - 1] = level;
         }
     }
 }
@@ -433,15 +449,23 @@ impl Track {
 impl Watch {
     /// An idle watch.
     pub const fn fresh() -> Watch {
-        Watch { watched: 0, tracks: [Track::empty(0); ROOM] }
+        Watch { watched: 0, tracks: [Track::empty(0); ROOM], depth: 0 }
     }
 
     fn is_well_formed(&self) -> bool {
-        if self.watched > ROOM {
+        let depth_fine = if self.watched == 0 { self.depth == 0 } else { depth_in_range(self.depth) };
+        if self.watched > ROOM || !depth_fine {
             return false;
         }
         let (used, unused) = self.tracks.split_at(self.watched);
-        if !used.iter().all(Track::is_fine) || unused.iter().any(|track| *track != Track::empty(0)) {
+        if used.iter().any(|track| track.channel > HIGHEST_CHANNEL || track.count > self.depth)
+            || unused.iter().any(|track| *track != Track::empty(0))
+        {
+            return false;
+        }
+        let mut outside = [0; PART];
+        used.iter().for_each(|track| track.raise_outside(&mut outside));
+        if outside.iter().fold(0, |most, &lane| most.max(lane)) != 0 {
             return false;
         }
         // Unused places take numbers of their own, so that all are compared without a branch.
@@ -474,15 +498,19 @@ impl Watch {
         used.position(|track| track.channel == channel).ok_or(Refusal::NotWatched)
     }
 
-    /// That channel alone, without levels. Refusals 9, 2.
-    pub fn start(&mut self, serving: u16) -> Result<(), Refusal> {
+    /// That channel alone, without levels, at this depth. Refusals 9, 7, 2.
+    pub fn start(&mut self, serving: u16, depth: usize) -> Result<(), Refusal> {
         self.check()?;
+        if !depth_in_range(depth) {
+            return Err(Refusal::ParameterOutOfRange);
+        }
         if serving > HIGHEST_CHANNEL {
             return Err(Refusal::ChannelOutOfRange);
         }
         *self = Watch::fresh();
         self.tracks[0].channel = serving;
         self.watched = 1;
+        self.depth = depth;
         Ok(())
     }
 
@@ -528,7 +556,7 @@ impl Watch {
         self.check()?;
         let place = self.place(channel)?;
         if let Some(level) = heard_level(burst)? {
-            self.tracks[place].push(level);
+            self.tracks[place].push(self.depth, level as i16);
         }
         Ok(())
     }
@@ -551,12 +579,12 @@ impl Watch {
         let Some((serving, neighbours)) = self.tracks[..self.watched].split_first() else {
             return Err(Refusal::NotWatched);
         };
-        if serving.count < DEPTH {
+        if serving.count < self.depth {
             return Ok(Verdict::Wait);
         }
         // The greatest sum, the lowest channel among equals; at first the sum that is to be exceeded, with no channel.
-        let mut best = (serving.sum() + DEPTH as i32 * hysteresis, None);
-        for track in neighbours.iter().filter(|track| track.count == DEPTH) {
+        let mut best = (serving.sum() + self.depth as i32 * hysteresis, None);
+        for track in neighbours.iter().filter(|track| track.count == self.depth) {
             let sum = track.sum();
             if sum > best.0 || (sum == best.0 && best.1.is_some_and(|channel| track.channel < channel)) {
                 best = (sum, Some(track.channel));

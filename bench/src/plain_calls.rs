@@ -74,7 +74,7 @@ impl Library for Plain {
         check_sweep(sweep: &Sweep) -> () { sweep.check() }
         choose(sweep: &Sweep, margin: i32, outcomes: &[u8]) -> Choice { plain::choose(sweep, margin, outcomes) }
 
-        start(watch: &mut Watch, serving: u16) -> () { watch.start(serving) }
+        start(watch: &mut Watch, serving: u16, depth: usize) -> () { watch.start(serving, depth) }
         new_list(watch: &mut Watch, list: &[u16]) -> () { watch.new_list(list) }
         move_to(watch: &mut Watch, channel: u16) -> () { watch.move_to(channel) }
         file(watch: &mut Watch, channel: u16, burst: Burst) -> () { watch.file(channel, burst) }

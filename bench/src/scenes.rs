@@ -203,9 +203,11 @@ pub struct Watched {
     calls: OnWatch,
 }
 
-/// The calls of a run, and the bursts that are filed before.
+/// The calls of a run, the bursts that are filed before, and the depth: that of all watches before one was given at the
+/// start, so that times can be compared.
 const WATCH_CALLS: usize = 5_000;
 const WARM_UP: usize = 210;
+pub const DEPTH: usize = 15;
 
 /// One of the seven channels.
 fn watched_channel(dice: &Dice) -> u16 {
@@ -216,7 +218,7 @@ impl Watched {
     fn new(calls: OnWatch) -> Watched {
         let dice = scene_dice();
         let mut watch = Watch::fresh();
-        let _ = watch.start(100);
+        let _ = watch.start(100, DEPTH);
         let _ = watch.new_list(&[200, 300, 400, 500, 600, 700]);
         for _ in 0..WARM_UP {
             let _ = watch.file(watched_channel(&dice), likely(&dice));

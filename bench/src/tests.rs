@@ -20,7 +20,7 @@ use library::{refusal_of, told, Answer, Told};
 use made_up::{burst, heard};
 use plain::{
     choose, level_to_float, level_to_hundredths, quality_to_float, quality_to_hundredths, Burst, Choice, Levels,
-    PowerParameters, PowerRecord, Refusal, Sent, Sweep, Track, Verdict, Watch, CHANNELS, DEPTH,
+    PowerParameters, PowerRecord, Refusal, Sent, Sweep, Track, Verdict, Watch, CAPACITY, CHANNELS,
 };
 use plain_calls::Plain;
 use scenes::{played, Choices, FullSweep, Scene, Steps, ToFloat, ToHundredths, Watched};
@@ -237,36 +237,68 @@ fn choices_agree_with_the_second_program() {
 
 // The watch.
 
-fn watching(serving: u16, list: &[u16]) -> Watch {
+fn watching(serving: u16, list: &[u16], depth: usize) -> Watch {
     let mut watch = Watch::fresh();
-    assert_eq!(watch.start(serving), Ok(()));
+    assert_eq!(watch.start(serving, depth), Ok(()));
     assert_eq!(watch.new_list(list), Ok(()));
     watch
 }
 
 #[test]
 fn checked_examples_of_the_watch() {
-    let mut watch = watching(5, &[]);
+    let mut watch = watching(5, &[], 15);
     watch.file(5, heard(-1)).unwrap();
     watch.file(5, heard(-2)).unwrap();
     assert_eq!(watch.ask(5), Ok(Levels { count: 2, mean: -2 }));
 
-    let mut watch = watching(10, &[20]);
-    for _ in 0..14 {
-        watch.file(10, heard(-10_000)).unwrap();
+    // Document 01's depth is 15; at every other it is the same.
+    for depth in 5..=31 {
+        let mut watch = watching(10, &[20], depth);
+        for _ in 0..depth - 1 {
+            watch.file(10, heard(-10_000)).unwrap();
+            watch.file(20, heard(-9_700)).unwrap();
+        }
         watch.file(20, heard(-9_700)).unwrap();
+        assert_eq!(watch.verdict(299), Ok(Verdict::Wait));
+        watch.file(10, heard(-10_000)).unwrap();
+        assert_eq!(watch.verdict(300), Ok(Verdict::Stay));
+        assert_eq!(watch.verdict(299), Ok(Verdict::MoveTo(20)));
     }
-    watch.file(20, heard(-9_700)).unwrap();
-    assert_eq!(watch.verdict(299), Ok(Verdict::Wait));
-    watch.file(10, heard(-10_000)).unwrap();
-    assert_eq!(watch.verdict(300), Ok(Verdict::Stay));
-    assert_eq!(watch.verdict(299), Ok(Verdict::MoveTo(20)));
+}
+
+#[test]
+fn levels_at_the_ends_of_the_range() {
+    for depth in 5..=31 {
+        let mut watch = watching(10, &[20], depth);
+        for _ in 0..depth {
+            watch.file(10, heard(-15_000)).unwrap();
+            watch.file(20, heard(0)).unwrap();
+        }
+        assert_eq!(watch.ask(10), Ok(Levels { count: depth, mean: -15_000 }));
+        assert_eq!(watch.ask(20), Ok(Levels { count: depth, mean: 0 }));
+        assert_eq!(watch.verdict(6_000), Ok(Verdict::MoveTo(20)));
+    }
+}
+
+#[test]
+fn refusals_of_a_start_come_in_order() {
+    for mut watch in [Watch::fresh(), watching(10, &[20], 7)] {
+        let before = watch.clone();
+        for depth in [0, 4, 32, 1 << 32 | 15, usize::MAX] {
+            assert_eq!(watch.start(10, depth), Err(Refusal::ParameterOutOfRange));
+            assert_eq!(watch.start(1_088, depth), Err(Refusal::ParameterOutOfRange));
+        }
+        for depth in [5, 31] {
+            assert_eq!(watch.start(1_088, depth), Err(Refusal::ChannelOutOfRange));
+        }
+        assert_eq!(watch, before);
+    }
 }
 
 #[test]
 fn equal_sums_go_to_the_lowest_channel() {
     for list in [[20, 30, 40], [40, 30, 20], [30, 20, 40]] {
-        let mut watch = watching(10, &list);
+        let mut watch = watching(10, &list, 15);
         for (channel, level) in [(10, -10_000), (20, -9_001), (30, -9_000), (40, -9_000)] {
             for _ in 0..15 {
                 watch.file(channel, heard(level)).unwrap();
@@ -280,12 +312,13 @@ fn equal_sums_go_to_the_lowest_channel() {
 
 /// The rule of a well-formed watch record.
 fn watch_is_well_formed(w: &Watch) -> bool {
-    let unused = Track { channel: 0, count: 0, levels: [0; DEPTH] };
+    let unused = Track { channel: 0, count: 0, levels: [0; CAPACITY] };
     let fine = |t: &Track| {
         let level_fine = |k: usize| if k < t.count { (-15_000..=0).contains(&t.levels[k]) } else { t.levels[k] == 0 };
-        t.channel <= 1_087 && t.count <= DEPTH && (0..DEPTH).all(level_fine)
+        t.channel <= 1_087 && t.count <= w.depth && (0..CAPACITY).all(level_fine)
     };
     w.watched <= 7
+        && if w.watched == 0 { w.depth == 0 } else { (5..=31).contains(&w.depth) }
         && w.tracks[..w.watched].iter().all(fine)
         && w.tracks[w.watched..].iter().all(|t| *t == unused)
         && (0..w.watched).all(|i| (0..i).all(|j| w.tracks[i].channel != w.tracks[j].channel))
@@ -297,7 +330,7 @@ fn damaged_watches_are_refused_and_stay() {
     let (mut refused, mut accepted) = (0, 0);
     for round in 0..60 {
         let list = [0, 2, 3, 4, 5, 1_087];
-        let mut watch = watching(1, &list[..round % 7]);
+        let mut watch = watching(1, &list[..round % 7], [5, 15, 31, 8, 30][round % 5]);
         for _ in 0..[0, 5, 60, 300][round % 4] {
             let _ = watch.file(dice.one_of(&[0, 1, 2, 3, 4, 5, 1_087]), burst(&dice));
         }
@@ -310,12 +343,14 @@ fn damaged_watches_are_refused_and_stay() {
             let before = damaged.clone();
             assert_eq!(damaged.check().is_ok(), well_formed, "{damaged:?}");
             if well_formed {
-                assert_eq!(damaged.start(1_088), Err(Refusal::ChannelOutOfRange));
+                assert_eq!(damaged.start(1_088, 15), Err(Refusal::ChannelOutOfRange));
+                assert_eq!(damaged.start(1_088, 32), Err(Refusal::ParameterOutOfRange));
                 assert_eq!(damaged.file(1_088, heard(1)), Err(Refusal::NotWatched));
                 accepted += 1;
             } else {
                 let nine = Err(Refusal::RecordNotWellFormed);
-                assert_eq!(damaged.start(1_088), nine);
+                assert_eq!(damaged.start(1_088, 32), nine);
+                assert_eq!(damaged.start(1, 15), nine);
                 assert_eq!(damaged.new_list(&[1_088]), nine);
                 assert_eq!(damaged.move_to(1_088), nine);
                 assert_eq!(damaged.file(1_088, heard(1)), nine);
@@ -336,7 +371,10 @@ fn second_answer(second: &mut second::watch::Watch, call: &WatchCall) -> u64 {
         answer.map_err(|refusal| refusal.number().into())
     }
     match *call {
-        WatchCall::Start(serving) => told(by_number(second.start(serving))),
+        // A depth is a byte there. 255 stands for those beyond a byte, which are out of range too.
+        WatchCall::Start(serving, depth) => {
+            told(by_number(second.start(serving, u8::try_from(depth).unwrap_or(u8::MAX))))
+        }
         WatchCall::NewList(ref list) => told(by_number(second.new_list(list))),
         WatchCall::MoveTo(channel) => told(by_number(second.move_to(channel))),
         WatchCall::File(channel, burst) => told(by_number(second.file(channel, second_burst(burst)))),
@@ -368,6 +406,37 @@ fn watches_agree_with_the_second_program() {
             let ask = WatchCall::Ask(dice.below(9) as u16);
             assert_eq!(ask.make::<Plain>(&mut plain), second_answer(&mut second, &ask), "after {call:?} on {before:?}");
         }
+    }
+}
+
+#[test]
+fn watches_of_every_depth_agree_with_the_second_program() {
+    let dice = Dice::new(8);
+    for depth in 5..=31 {
+        let mut plain = Watch::fresh();
+        let mut second = second::watch::Watch::default();
+        let mut both = |call: WatchCall| {
+            let answer = call.make::<Plain>(&mut plain);
+            assert_eq!(answer, second_answer(&mut second, &call), "{call:?} at depth {depth}");
+            assert!(watch_is_well_formed(&plain));
+            answer
+        };
+        both(WatchCall::Start(0, depth));
+        both(WatchCall::NewList(vec![6, 5, 4, 3, 2, 1]));
+        // How many wait, stay and move.
+        let mut verdicts = [0; 3];
+        for round in 0..3_000 {
+            let channel = dice.below(7) as u16;
+            both(WatchCall::File(channel, heard(-9_000 + 100 * dice.between(0, 2))));
+            both(WatchCall::Ask(channel));
+            let verdict = both(WatchCall::Verdict(dice.one_of(&[0, 1, 50])));
+            let kind = [Verdict::Wait.number(), Verdict::Stay.number()].iter().position(|&told| told == verdict);
+            verdicts[kind.unwrap_or(2)] += 1;
+            if round % 100 == 99 {
+                both(WatchCall::MoveTo(channel));
+            }
+        }
+        assert!(!verdicts.contains(&0), "{verdicts:?} at depth {depth}");
     }
 }
 
@@ -498,8 +567,8 @@ fn scenes_of_the_choice() {
 #[test]
 fn scenes_of_the_watch() {
     assert_eq!(answers(&Watched::file(), 5_000), [().number(); 5_000]);
-    // Every channel has all its levels: 15 in the upper half of the number.
-    assert!(answers(&Watched::ask(), 5_000).iter().all(|answer| answer >> 32 == 15));
+    // Every channel has all its levels: their count in the upper half of the number.
+    assert!(answers(&Watched::ask(), 5_000).iter().all(|answer| answer >> 32 == scenes::DEPTH as u64));
     let verdicts = answers(&Watched::verdict(), 5_000);
     assert_eq!(verdicts.len(), 5_000);
     assert!(!verdicts.contains(&Verdict::Wait.number()));

@@ -4,7 +4,7 @@ use crate::compare::{same, Compared};
 use crate::library::{Library, Record};
 use crate::ours::Ours;
 use crate::plain_calls::Plain;
-use crate::scenes::{played, Choices, FullSweep, Scene, Steps, ToFloat, ToHundredths, Watched};
+use crate::scenes::{played, Choices, FullSweep, Scene, Steps, ToFloat, ToHundredths, Watched, DEPTH};
 use std::hint::black_box;
 use std::time::Instant;
 
@@ -21,8 +21,8 @@ Ours are calls of the Rust package (host/rust), which crosses the border to the 
 each call, and copied back after a filing, beside the copies that are made within. The plain ones are functions that are
 not inlined and change their records in place. No buffer is cleared first: the inputs lie ready and are the same for
 both sides, caches are warm; records are made fresh before each timed run. Mixing the answer into a checksum counts on
-both sides, telling an answer of the package in the types of the plain Rust on ours. Both sides are built for any
-x86-64.";
+both sides, telling an answer of the package in the types of the plain Rust on ours. The watches have depth DEPTH. Both
+sides are built for any x86-64.";
 
 /// One side of a row: its time in ns and the checksum of its answers, and the best time so far.
 struct Side {
@@ -189,5 +189,5 @@ pub fn time_all(mut rows: Vec<Row>) {
         println!("| {call} | {} | {} | {:.2} | {} |", shown(ours), shown(plain), ours / plain, passed.cells());
     }
     println!();
-    println!("{}", NOTES.replace("ROUNDS", &ROUNDS.to_string()));
+    println!("{}", NOTES.replace("ROUNDS", &ROUNDS.to_string()).replace("DEPTH", &DEPTH.to_string()));
 }

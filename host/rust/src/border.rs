@@ -121,7 +121,7 @@ unsafe extern "C" {
     pub fn royukezan_choose_by_value(s: Sweep, margin: i32, outcomes: *const u8, length: usize) -> ChoiceAnswer;
 
     pub safe fn royukezan_watch_fresh() -> Watch;
-    pub safe fn royukezan_watch_start_by_value(w: Watch, serving: u16) -> WatchOutcome;
+    pub safe fn royukezan_watch_start_by_value(w: Watch, serving: u16, depth: usize) -> WatchOutcome;
     /// The pointer is aligned and not null, also where the length is 0, and that many channels can be read there.
     pub fn royukezan_watch_new_list_by_value(w: Watch, list: *const u16, length: usize) -> WatchOutcome;
     pub safe fn royukezan_watch_move_to_by_value(w: Watch, channel: u16) -> WatchOutcome;
@@ -166,8 +166,8 @@ layout!(NextAnswer: 8 by 4; refusal 0, next 4, channel 6);
 layout!(CountsAnswer: 12 by 4; refusal 0, visited 4, heard 8);
 layout!(ChoiceAnswer: 12 by 4; refusal 0, choice 4, channel 6, tried 8);
 layout!(Track: 80 by 8; channel 0, count 8, levels 16);
-layout!(Watch: 568 by 8; watched 0, tracks 8);
-layout!(WatchOutcome: 576 by 8; refusal 0, watch 8);
+layout!(Watch: 576 by 8; watched 0, tracks 8, depth 568);
+layout!(WatchOutcome: 584 by 8; refusal 0, watch 8);
 layout!(LevelsAnswer: 12 by 4; refusal 0, count 4, mean 8);
 layout!(VerdictAnswer: 8 by 4; refusal 0, verdict 4, channel 6);
 layout!(Parameters: 28 by 4; sqt 0, paninit 4, panmin 8, panmax 12, gainup 16, gaindn 20, mestep 24);

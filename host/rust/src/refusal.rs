@@ -49,7 +49,7 @@ refusals! {
     6 NotWatched "a filed or asked channel not watched; a move to a channel not in the list; \
         new list or verdict on an idle watch",
     7 ParameterOutOfRange "a margin, hysteresis or power parameter out of range; PANmin above PANmax; \
-        a code above 63",
+        a code above 63; a depth outside 5 to 31",
     8 OutcomesFaulty "outcome string not 1,088 long, or a byte above 5",
     9 RecordNotWellFormed "a record not well formed",
 }

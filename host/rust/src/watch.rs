@@ -4,8 +4,14 @@ use crate::border::{self, WatchOutcome};
 use crate::readings::{Burst, Reading};
 use crate::refusal::{accepted, foreign, Refusal};
 
-/// How many levels of a channel count.
-pub const DEPTH: usize = 15;
+/// The lowest depth of a watch: how many of a channel's levels count.
+pub const DEPTH_LOWEST: usize = 5;
+
+/// The highest depth of a watch, and so the most levels that a channel keeps.
+pub const DEPTH_HIGHEST: usize = 31;
+
+/// How many places a track has for levels, at least the highest depth.
+pub const CAPACITY: usize = 32;
 
 /// How many channels are watched at most: the serving channel and six neighbours.
 pub const ROOM: usize = 7;
@@ -16,17 +22,17 @@ pub const ROOM: usize = 7;
 pub struct Track {
     /// 0 to 1,087.
     pub channel: u16,
-    /// How many levels there are, 0 to 15.
+    /// How many levels there are, 0 to the depth of the watch.
     pub count: usize,
     /// In hundredths of a dB, oldest first; 0 from the count on.
-    pub levels: [i32; DEPTH],
+    pub levels: [i16; CAPACITY],
 }
 
 /// The watch record: the first `watched` tracks are the serving channel and the list, in this order.
 ///
 /// It may be taken apart, kept and made again by its fields. Every call tests it first and refuses one that is not
 /// well formed with 9. Well formed: what some calls from a fresh watch leave. So channels differ and are in range,
-/// counts are at most 15, levels are in -15,000 to 0, and what is not used is 0.
+/// counts are at most the depth, levels are in -15,000 to 0, and what is not used is 0. An idle watch is all zero.
 #[derive(Clone, Debug, PartialEq, Eq)]
 #[repr(C)]
 pub struct Watch {
@@ -34,12 +40,14 @@ pub struct Watch {
     pub watched: usize,
     /// The serving channel, then its neighbours; unused tracks are all zero.
     pub tracks: [Track; ROOM],
+    /// How many of a channel's levels count: 5 to 31, given at the start; 0 in an idle watch.
+    pub depth: usize,
 }
 
 /// The levels of a channel that count.
 #[derive(Clone, Copy, Debug, PartialEq, Eq)]
 pub struct Levels {
-    /// 0 to 15.
+    /// 0 to the depth of the watch.
     pub count: u32,
     /// In hundredths of a dB: the largest whole number not above sum / count; 0 for a count of 0.
     pub mean: i32,
@@ -48,7 +56,7 @@ pub struct Levels {
 /// What to do about the serving channel.
 #[derive(Clone, Copy, Debug, PartialEq, Eq)]
 pub enum Verdict {
-    /// The serving channel has fewer than 15 levels.
+    /// The serving channel has fewer levels than the depth.
     Wait,
     /// No neighbour is better by more than the hysteresis.
     Stay,
@@ -62,15 +70,16 @@ impl Watch {
         border::royukezan_watch_fresh()
     }
 
-    /// Watches this channel alone, as the serving one, without levels; what was watched before is forgotten.
-    /// Refusals 9, 2.
+    /// Watches this channel alone, as the serving one, without levels; what was watched before is forgotten. The
+    /// depth, 5 to 31, is how many of a channel's levels count, the newest; it stays until the next accepted start.
+    /// Refusals 9, 7, 2.
     #[inline]
-    pub fn start(&mut self, serving: u16) -> Result<(), Refusal> {
-        self.keep(border::royukezan_watch_start_by_value(self.clone(), serving))
+    pub fn start(&mut self, serving: u16, depth: usize) -> Result<(), Refusal> {
+        self.keep(border::royukezan_watch_start_by_value(self.clone(), serving, depth))
     }
 
-    /// Replaces the neighbours, by up to 6 channels in any order. One watched before and after keeps its levels.
-    /// Refusals 9, 5, 6.
+    /// Replaces the neighbours, by up to 6 channels in any order. One watched before and after keeps its levels, and
+    /// the depth stays. Refusals 9, 5, 6.
     #[inline]
     pub fn new_list(&mut self, list: &[u16]) -> Result<(), Refusal> {
         let (given, length) = (self.clone(), list.len());
@@ -81,7 +90,7 @@ impl Watch {
     }
 
     /// Moves to a neighbour: it becomes serving, and the old serving channel takes its place in the list. Both keep
-    /// their levels. Refusals 9, 6.
+    /// their levels, and the depth stays. Refusals 9, 6.
     #[inline]
     pub fn move_to(&mut self, channel: u16) -> Result<(), Refusal> {
         self.keep(border::royukezan_watch_move_to_by_value(self.clone(), channel))
@@ -96,8 +105,8 @@ impl Watch {
         }
     }
 
-    /// Files a heard burst, its level in dBm and its quality in dB: the level is added as the newest, and beyond 15
-    /// the oldest goes. Refusals 9, 6, 1.
+    /// Files a heard burst, its level in dBm and its quality in dB: the level is added as the newest, and beyond the
+    /// depth the oldest goes. Refusals 9, 6, 1.
     #[inline]
     pub fn file_heard(&mut self, channel: u16, level: f32, quality: f32) -> Result<(), Refusal> {
         self.keep(border::royukezan_watch_file_heard_by_value(self.clone(), channel, level, quality))

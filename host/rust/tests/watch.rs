@@ -2,12 +2,15 @@
 
 mod common;
 
-use royukezan::watch::{Levels, Track, DEPTH, ROOM};
+use royukezan::watch::{Levels, Track, CAPACITY, DEPTH_HIGHEST, DEPTH_LOWEST, ROOM};
 use royukezan::{Burst, Refusal, Verdict, Watch};
 
-fn watching(serving: u16, list: &[u16]) -> Watch {
+/// Document 01's examples are at this depth.
+const DEPTH: usize = 15;
+
+fn watching(serving: u16, list: &[u16], depth: usize) -> Watch {
     let mut watch = Watch::fresh();
-    assert_eq!(watch.start(serving), Ok(()));
+    assert_eq!(watch.start(serving, depth), Ok(()));
     assert_eq!(watch.new_list(list), Ok(()));
     watch
 }
@@ -19,22 +22,22 @@ fn file(watch: &mut Watch, channel: u16, level: f32, times: usize) {
     }
 }
 
-fn track(channel: u16, filed: &[i32]) -> Track {
-    let mut levels = [0; DEPTH];
+fn track(channel: u16, filed: &[i16]) -> Track {
+    let mut levels = [0; CAPACITY];
     levels[..filed.len()].copy_from_slice(filed);
     Track { channel, count: filed.len(), levels }
 }
 
 /// A record made by hand.
-fn made(tracks: &[Track]) -> Watch {
-    let mut watch = Watch { watched: tracks.len(), tracks: [track(0, &[]); ROOM] };
+fn made(tracks: &[Track], depth: usize) -> Watch {
+    let mut watch = Watch { watched: tracks.len(), tracks: [track(0, &[]); ROOM], depth };
     watch.tracks[..tracks.len()].copy_from_slice(tracks);
     watch
 }
 
 #[test]
 fn two_levels_and_their_mean() {
-    let mut watch = watching(5, &[]);
+    let mut watch = watching(5, &[], DEPTH);
     assert_eq!(watch.ask(5), Ok(Levels { count: 0, mean: 0 }));
     file(&mut watch, 5, -0.01, 1);
     file(&mut watch, 5, -0.02, 1);
@@ -42,19 +45,34 @@ fn two_levels_and_their_mean() {
 }
 
 #[test]
-fn wait_stay_and_move() {
-    let mut watch = watching(10, &[20]);
-    file(&mut watch, 10, -100.0, 14);
-    file(&mut watch, 20, -97.0, 15);
-    assert_eq!(watch.verdict(299), Ok(Verdict::Wait));
-    file(&mut watch, 10, -100.0, 1);
-    assert_eq!(watch.verdict(300), Ok(Verdict::Stay));
-    assert_eq!(watch.verdict(299), Ok(Verdict::MoveTo(20)));
+fn wait_stay_and_move_at_each_depth() {
+    for depth in DEPTH_LOWEST..=DEPTH_HIGHEST {
+        let mut watch = watching(10, &[20], depth);
+        file(&mut watch, 10, -100.0, depth - 1);
+        file(&mut watch, 20, -97.0, depth);
+        assert_eq!(watch.verdict(299), Ok(Verdict::Wait));
+        file(&mut watch, 10, -100.0, 1);
+        assert_eq!(watch.verdict(300), Ok(Verdict::Stay));
+        assert_eq!(watch.verdict(299), Ok(Verdict::MoveTo(20)));
+        assert_eq!(watch, made(&[track(10, &vec![-10_000; depth]), track(20, &vec![-9_700; depth])], depth));
+    }
+}
+
+#[test]
+fn a_neighbour_with_fewer_levels_does_not_count() {
+    for depth in [5, 6, 15, 30, 31] {
+        let mut watch = watching(10, &[20], depth);
+        file(&mut watch, 10, -100.0, depth);
+        file(&mut watch, 20, -90.0, depth - 1);
+        assert_eq!(watch.verdict(0), Ok(Verdict::Stay));
+        file(&mut watch, 20, -90.0, 1);
+        assert_eq!(watch.verdict(0), Ok(Verdict::MoveTo(20)));
+    }
 }
 
 #[test]
 fn levels_stay_with_their_channel() {
-    let mut watch = watching(10, &[20, 30, 40]);
+    let mut watch = watching(10, &[20, 30, 40], DEPTH);
     file(&mut watch, 20, -90.0, 2);
     file(&mut watch, 40, -80.0, 3);
     assert_eq!(watch.new_list(&[40, 50, 20]), Ok(()));
@@ -67,14 +85,14 @@ fn levels_stay_with_their_channel() {
     assert_eq!(watch.new_list(&[20, 40]), Ok(()));
     assert_eq!(watch.ask(40), Ok(Levels { count: 0, mean: 0 }));
     assert_eq!(watch.move_to(20), Ok(()));
-    let told = made(&[track(20, &[-9_000, -9_000]), track(10, &[]), track(40, &[])]);
+    let told = made(&[track(20, &[-9_000, -9_000]), track(10, &[]), track(40, &[])], DEPTH);
     assert_eq!(watch, told);
 }
 
 #[test]
 fn equal_sums_go_to_the_lowest_channel() {
     for list in [[20, 30, 40], [40, 30, 20], [30, 40, 20]] {
-        let mut watch = watching(10, &list);
+        let mut watch = watching(10, &list, DEPTH);
         for (channel, level) in [(10, -100.0), (20, -90.01), (30, -90.0), (40, -90.0)] {
             file(&mut watch, channel, level, 15);
         }
@@ -83,27 +101,62 @@ fn equal_sums_go_to_the_lowest_channel() {
 }
 
 #[test]
-fn the_oldest_level_goes() {
-    let mut watch = watching(0, &[1_087]);
-    file(&mut watch, 1_087, -1.0, 1);
-    file(&mut watch, 1_087, -2.0, 15);
-    assert_eq!(watch.ask(1_087), Ok(Levels { count: 15, mean: -200 }));
-    let before = watch.clone();
-    assert_eq!(watch.file_missed(1_087), Ok(()));
-    assert_eq!(watch.file(0, Burst::Missed), Ok(()));
-    assert_eq!(watch, before);
+fn the_oldest_level_goes_beyond_the_depth() {
+    for depth in DEPTH_LOWEST..=DEPTH_HIGHEST {
+        let mut watch = watching(0, &[1_087], depth);
+        let count = depth as u32;
+        file(&mut watch, 1_087, -1.0, 1);
+        file(&mut watch, 1_087, -2.0, depth - 1);
+        assert_eq!(watch.ask(1_087), Ok(Levels { count, mean: -200 + 100 / depth as i32 }));
+        file(&mut watch, 1_087, -2.0, 1);
+        assert_eq!(watch.ask(1_087), Ok(Levels { count, mean: -200 }));
+        assert_eq!(watch, made(&[track(0, &[]), track(1_087, &vec![-200; depth])], depth));
+        let before = watch.clone();
+        assert_eq!(watch.file_missed(1_087), Ok(()));
+        assert_eq!(watch.file(0, Burst::Missed), Ok(()));
+        assert_eq!(watch, before);
+    }
+}
+
+#[test]
+fn levels_at_the_ends_of_the_range() {
+    for depth in DEPTH_LOWEST..=DEPTH_HIGHEST {
+        let mut watch = watching(10, &[20], depth);
+        let count = depth as u32;
+        file(&mut watch, 10, -150.0, depth);
+        file(&mut watch, 20, 0.0, depth);
+        assert_eq!(watch.ask(10), Ok(Levels { count, mean: -15_000 }));
+        assert_eq!(watch.ask(20), Ok(Levels { count, mean: 0 }));
+        assert_eq!(watch.verdict(6_000), Ok(Verdict::MoveTo(20)));
+        assert_eq!(watch, made(&[track(10, &vec![-15_000; depth]), track(20, &vec![0; depth])], depth));
+    }
+}
+
+#[test]
+fn a_list_and_a_move_keep_the_depth_and_a_start_gives_another() {
+    let mut watch = watching(10, &[20, 30], 5);
+    file(&mut watch, 20, -90.0, 6);
+    assert_eq!(watch.new_list(&[30, 20, 40]), Ok(()));
+    assert_eq!(watch.move_to(20), Ok(()));
+    file(&mut watch, 20, -80.0, 1);
+    let levels = [-9_000, -9_000, -9_000, -9_000, -8_000];
+    assert_eq!(watch, made(&[track(20, &levels), track(30, &[]), track(10, &[]), track(40, &[])], 5));
+    assert_eq!(watch.start(20, 31), Ok(()));
+    assert_eq!(watch, made(&[track(20, &[])], 31));
+    assert_eq!(watch.start(1_087, 15), Ok(()));
+    assert_eq!(watch, made(&[track(1_087, &[])], 15));
 }
 
 #[test]
 fn a_record_that_was_kept_is_given_again() {
-    let mut kept = made(&[track(10, &[-10_000; 15]), track(20, &[-9_700; 15])]);
+    let mut kept = made(&[track(10, &[-10_000; 15]), track(20, &[-9_700; 15])], DEPTH);
     assert_eq!(kept.check(), Ok(()));
     assert_eq!(kept.verdict(299), Ok(Verdict::MoveTo(20)));
     assert_eq!(kept.file(20, Burst::heard(-97.15, 8.0)), Ok(()));
     assert_eq!(kept.ask(20), Ok(Levels { count: 15, mean: -9_701 }));
-    assert_eq!(kept.start(20), Ok(()));
-    assert_eq!(kept, made(&[track(20, &[])]));
-    assert_eq!(Watch::fresh(), made(&[]));
+    assert_eq!(kept.start(20, DEPTH), Ok(()));
+    assert_eq!(kept, made(&[track(20, &[])], DEPTH));
+    assert_eq!(Watch::fresh(), made(&[], 0));
 }
 
 /// Each call on this record is refused so, and leaves it as it was.
@@ -121,7 +174,12 @@ fn refusals_of_an_idle_watch() {
     refused(
         &Watch::fresh(),
         &[
-            (|w| w.start(1_088), ChannelOutOfRange),
+            (|w| w.start(1_088, 15), ChannelOutOfRange),
+            (|w| w.start(310, 0), ParameterOutOfRange),
+            (|w| w.start(310, 4), ParameterOutOfRange),
+            (|w| w.start(310, 32), ParameterOutOfRange),
+            (|w| w.start(310, usize::MAX), ParameterOutOfRange),
+            (|w| w.start(1_088, 4), ParameterOutOfRange),
             (|w| w.new_list(&[1_088]), ListFaulty),
             (|w| w.new_list(&[]), NotWatched),
             (|w| w.new_list(&[0]), NotWatched),
@@ -138,12 +196,22 @@ fn refusals_of_an_idle_watch() {
 #[test]
 fn refusals_come_in_their_order() {
     use Refusal::{ChannelOutOfRange, ListFaulty, NotWatched, ParameterOutOfRange, ReadingOutOfRange};
-    let mut watch = watching(10, &[20, 30]);
+    let mut watch = watching(10, &[20, 30], DEPTH);
     file(&mut watch, 20, -90.0, 3);
     refused(
         &watch,
         &[
-            (|w| w.start(u16::MAX), ChannelOutOfRange),
+            (|w| w.start(u16::MAX, 5), ChannelOutOfRange),
+            (|w| w.start(1_088, 31), ChannelOutOfRange),
+            (|w| w.start(1_088, 4), ParameterOutOfRange),
+            (|w| w.start(1_088, 32), ParameterOutOfRange),
+            (|w| w.start(1_088, usize::MAX), ParameterOutOfRange),
+            (|w| w.start(10, 0), ParameterOutOfRange),
+            (|w| w.start(10, 4), ParameterOutOfRange),
+            (|w| w.start(10, 32), ParameterOutOfRange),
+            // Of 32 bits it would be 15.
+            (|w| w.start(10, (1 << 32) + 15), ParameterOutOfRange),
+            (|w| w.start(10, usize::MAX), ParameterOutOfRange),
             (|w| w.new_list(&[1, 2, 3, 4, 5, 6, 7]), ListFaulty),
             (|w| w.new_list(&[1, 2, 1]), ListFaulty),
             (|w| w.new_list(&[1, 10]), ListFaulty),
@@ -161,7 +229,7 @@ fn refusals_come_in_their_order() {
     );
 }
 
-const DAMAGES: [fn(&mut Watch); 13] = [
+const DAMAGES: [fn(&mut Watch); 32] = [
     |w| w.watched = 8,
     |w| w.watched = usize::MAX,
     // A track beyond those in use is not all zero.
@@ -169,28 +237,49 @@ const DAMAGES: [fn(&mut Watch); 13] = [
     |w| w.watched = 2,
     |w| w.tracks[3].channel = 7,
     |w| w.tracks[6].levels[14] = -1,
+    |w| w.tracks[6].levels[30] = -1,
+    |w| w.tracks[6].levels[31] = -1,
     |w| w.tracks[4].count = 1,
     // A repeat, and a channel that is none.
     |w| w.tracks[1].channel = 10,
     |w| w.tracks[2].channel = 1_088,
-    // More levels than there is room for, one beyond the count, one that is none.
+    // A depth outside 5 to 31, or an idle watch that has one.
+    |w| w.depth = 0,
+    |w| w.depth = 4,
+    |w| w.depth = 32,
+    |w| w.depth = usize::MAX,
+    |w| *w = Watch { depth: 15, ..Watch::fresh() },
+    |w| *w = Watch { depth: 1, ..Watch::fresh() },
+    |w| *w = Watch { watched: 1, depth: 0, ..Watch::fresh() },
+    |w| *w = Watch { watched: 1, depth: 4, ..Watch::fresh() },
+    // More levels than the depth, or than there is room for, one beyond the count, one that is none.
     |w| w.tracks[0].count = 16,
+    |w| (w.depth, w.tracks[1].count) = (5, 6),
+    |w| (w.depth, w.tracks[0].count) = (31, 32),
+    |w| (w.depth, w.tracks[0].count) = (32, 32),
     |w| w.tracks[1].count = 2,
+    |w| w.tracks[1].levels[3] = -1,
+    |w| w.tracks[1].levels[30] = -1,
+    |w| w.tracks[1].levels[31] = -1,
+    |w| (w.depth, w.tracks[0].count, w.tracks[0].levels[31]) = (31, 31, -1),
     |w| w.tracks[1].levels[0] = -15_001,
+    |w| w.tracks[1].levels[0] = i16::MIN,
     |w| w.tracks[1].levels[2] = 1,
+    |w| w.tracks[1].levels[2] = i16::MAX,
 ];
 
 #[test]
 fn damaged_records_are_refused_first() {
-    let mut watch = watching(10, &[20, 30]);
+    let mut watch = watching(10, &[20, 30], DEPTH);
     file(&mut watch, 20, -90.0, 3);
     common::all_refused(
         &watch,
         &DAMAGES,
         &[
             |w| w.check(),
-            |w| w.start(1_088),
-            |w| w.start(10),
+            |w| w.start(1_088, 15),
+            |w| w.start(1_088, 32),
+            |w| w.start(10, 15),
             |w| w.new_list(&[1_088]),
             |w| w.new_list(&[]),
             |w| w.move_to(40),
