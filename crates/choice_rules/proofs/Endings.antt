@@ -1,19 +1,19 @@
 -- What the definition comes to in each case of its tests, and which case the answer of `sweep::next` tells: refused, the record is not well formed;
 -- done, the sweep is finished; a channel, it is not.
 use Prim.Native.Nat.{ℕ}
-use mathlib.Core.Path.{_≡_, sym, ap, _∙_}
+use mathlib.Core.Path.{_≡_, refl, sym, ap, _∙_}
 use mathlib.Core.Bool.{true, false}
 use mathlib.Core.List.{List, [], _∷_}
-use mathlib.Core.Logic.{_⊎_, ⊎-elim}
+use mathlib.Core.Logic.{⊎-elim}
 use native.Mathlib.Omega.{arith}
 use lib.IntN.{ℤ}
 use denote.Enum.Declared
 use types.Run.{OneOf}
 use Rattle.refusal.specs.declared.Refusal.{Refusal}
 use Rattle.refusal.specs.declared.Refusal.the-variants.{SweepUnfinished, ParameterOutOfRange, OutcomesFaulty, RecordNotWellFormed}
-use Rattle.refusal.specs.Number.{numberOf}
-use Rattle.refusal.specs.Told.{Told, gives, refused, refusedFor}
+use Rattle.refusal.specs.Told.{gives, refused, refusedFor}
 use Rattle.refusal.proofs.OneToOne.{gives-refused}
+use Rattle.refusal.proofs.Provided.{same-reason}
 use Rattle.sweep_rules.specs.declared.NextChannel.{NextChannel}
 use Rattle.sweep_rules.specs.declared.NextChannel.the-variants as next
 use Rattle.sweep_rules.specs.declared.Sweep.{Sweep}
@@ -66,10 +66,7 @@ module _ (s : Sweep) where
   pub next-refused : (r : Refusal) → toldNext (next.Refused r) ≡ nextTold s → (m : ℤ) (o : List ℕ) → refusedFor r ≡ choosing s m o
   next-refused r e m o =
       let w = fails (wellFormed s) (λ w. gives-refused (sym (e ∙ told-formed w))) in
-      ap refused (number (numberOf r) (numberOf RecordNotWellFormed) (e ∙ told-unformed w)) ∙ says-9 s m o w
-    where
-      number : (n k : ℕ) → _≡_ {A = Told Next} (refused n) (refused k) → n ≡ k
-      number n k q = cc
+      ap refused (same-reason refl (e ∙ told-unformed w)) ∙ says-9 s m o w
 
   pub next-formed : (a : NextChannel) → toldNext a ≡ nextTold s → OneOf (0 ∷ 1 ∷ []) (Declared.tagOf the-type a) → wellFormed s ≡ true
   next-formed a e k = ⊎-elim (λ (w : wellFormed s ≡ true). w) (λ (w : wellFormed s ≡ false). absurd (by a (e ∙ told-unformed w) k)) (which (wellFormed s))

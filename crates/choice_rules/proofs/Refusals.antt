@@ -9,14 +9,16 @@ use lib.ListN.{length}
 use lib.IntN.{ℤ, pos}
 use lib.Signed.{leZ}
 use borrow.Author.Tests.{le-leb, leb-true, eqb-true, eq-eqb}
+use Rattle.refusal.specs.declared.Reason.{Reason}
 use Rattle.refusal.specs.Told.{refused, gives}
 use Rattle.refusal.proofs.OneToOne.{gives-refused}
+use Rattle.refusal.proofs.Provided.{same-reason}
 use Rattle.sweep_rules.specs.Map.{channels}
 use Rattle.sweep_rules.specs.Record.{everyChannel, finished, wellFormed}
 use Rattle.sweep_rules.specs.Claims.{Finished}
 use Rattle.sweep_rules.specs.declared.Sweep.{Sweep}
 use Rattle.sweep_rules.proofs.Tests.{which, both, left, right, each-all, all-each}
-use Rattle.sweep_rules.proofs.ReadCalls.{fails, says-no, number}
+use Rattle.sweep_rules.proofs.ReadCalls.{fails, says-no}
 use Rattle.sweep_rules.proofs.Claims.{wellFormedRule, finishedRule}
 use Rattle.choice_rules.specs.Choose.{outcomeAt, outcomesFine, highestOutcome, marginInRange, Chosen, chosen, choosing}
 use Rattle.choice_rules.specs.Claims.{OutcomesInRange, MarginInRange, Refuses, unformed, outcomesFaulty, marginOutOfRange, unfinished, RefusalRule}
@@ -59,10 +61,10 @@ in-finished s = finishedRule .all s .1
 -- ---- both ways
 
 module _ (s : Sweep) (m : ℤ) (o : List ℕ) where
-  row-is : {a n : ℕ} → choosing s m o ≡ refused n → refused a ≡ choosing s m o → Refuses s m o a → Refuses s m o n
-  row-is e q row = subst (Refuses s m o) (number (sym q) e) row
+  row-is : {a n : Reason} → choosing s m o ≡ refused n → refused a ≡ choosing s m o → Refuses s m o a → Refuses s m o n
+  row-is e q row = subst (Refuses s m o) (same-reason (sym q) e) row
 
-  pub to-row : (n : ℕ) → choosing s m o ≡ refused n → Refuses s m o n
+  pub to-row : (n : Reason) → choosing s m o ≡ refused n → Refuses s m o n
   to-row n e =
       ⊎-elim
       (λ (w : wellFormed s ≡ true). ⊎-elim
@@ -80,7 +82,7 @@ module _ (s : Sweep) (m : ℤ) (o : List ℕ) where
       (λ (w : wellFormed s ≡ false). row-is e (says-9 s m o w) (unformed (says-no (wellFormed s) (wellFormedRule s .1) w)))
       (which (wellFormed s))
 
-  pub from-row : {n : ℕ} → Refuses s m o n → choosing s m o ≡ refused n
+  pub from-row : {n : Reason} → Refuses s m o n → choosing s m o ≡ refused n
   from-row (unformed w) = sym (says-9 s m o (fails (wellFormed s) (wellFormedRule s .0) w))
   from-row (outcomesFaulty w f) = sym (says-8 s m o (wellFormedRule s .1 w) (fails (outcomesFine o) (fine-in o) f))
   from-row (marginOutOfRange w f r) = sym (says-7 s m o (wellFormedRule s .1 w) (in-fine o f) (fails (marginInRange m) (margin-in m) r))

@@ -8,10 +8,9 @@ use lib.IntN.{ℤ, pos}
 use lib.Signed.{leZ}
 use lib.Dec.{eqb, leb}
 use Rattle.refusal.specs.declared.Refusal.the-variants.{SweepUnfinished, ParameterOutOfRange, OutcomesFaulty, RecordNotWellFormed}
-use Rattle.refusal.specs.Told.{Told, gives}
+use Rattle.refusal.specs.Told.{Told, gives, provided}
 use Rattle.sweep_rules.specs.Map.{channels}
 use Rattle.sweep_rules.specs.Record.{heard, everyChannel, finished, wellFormed}
-use Rattle.sweep_rules.specs.Filing.{provided}
 use Rattle.sweep_rules.specs.declared.Sweep.{Sweep}
 use Rattle.choice_rules.specs.Order.{searchOrder, nearPart}
 

@@ -9,7 +9,9 @@ use lib.ListN.{getD, length}
 use lib.IntN.{ℤ, pos, _-ℤ_}
 use lib.Signed.{_≤ℤ_, _<ℤ_}
 use Rattle.refusal.specs.declared.Refusal.{Refusal}
-use Rattle.refusal.specs.Number.{numberOf}
+use Rattle.refusal.specs.declared.Reason.{Reason}
+use Rattle.refusal.specs.declared.Reason.the-variants.{Alone}
+use Rattle.refusal.specs.Number.{reasonOf}
 use Rattle.refusal.specs.Told.{refused, gives}
 use Rattle.refusal.specs.Claims.{OneToOne}
 use Rattle.readings_rules.specs.Claims.{Between}
@@ -32,24 +34,25 @@ pub record OutcomesInRange (o : List ℕ) : Type 0 where
 abbrev pub MarginInRange : ℤ → Type 0
 MarginInRange = Between (pos 0) (pos 6000)
 
--- the table: a choice is refused with this number. "Several at once: 9, 8, 7, .. 4, ..": a later number only where no earlier one is given
-pub data Refuses (s : Sweep) (m : ℤ) (o : List ℕ) : ℕ → Type 0 where
+-- the table: a choice is refused with this number, and no place is told. "Several at once: 9, 8, 7, .. 4, ..": a later number only where no
+-- earlier one is given
+pub data Refuses (s : Sweep) (m : ℤ) (o : List ℕ) : Reason → Type 0 where
   -- 9: "a record not well formed"
-  unformed : ¬ (WellFormed s) → Refuses s m o 9
+  unformed : ¬ (WellFormed s) → Refuses s m o (Alone 9)
   -- 8: "outcome string not 1,088 long, or a byte above 5"
-  outcomesFaulty : WellFormed s → ¬ (OutcomesInRange o) → Refuses s m o 8
+  outcomesFaulty : WellFormed s → ¬ (OutcomesInRange o) → Refuses s m o (Alone 8)
   -- 7: "a margin .. out of range"
-  marginOutOfRange : WellFormed s → OutcomesInRange o → ¬ (MarginInRange m) → Refuses s m o 7
+  marginOutOfRange : WellFormed s → OutcomesInRange o → ¬ (MarginInRange m) → Refuses s m o (Alone 7)
   -- 4: "a choice over an unfinished sweep"
-  unfinished : WellFormed s → OutcomesInRange o → MarginInRange m → ¬ (Finished s) → Refuses s m o 4
+  unfinished : WellFormed s → OutcomesInRange o → MarginInRange m → ¬ (Finished s) → Refuses s m o (Alone 4)
 
 -- a choice is refused with a number exactly when the table says so
 abbrev pub RefusalRule : Type 0
-RefusalRule = (s : Sweep) (m : ℤ) (o : List ℕ) (n : ℕ) → (choosing s m o ≡ refused n) ↔ Refuses s m o n
+RefusalRule = (s : Sweep) (m : ℤ) (o : List ℕ) (n : Reason) → (choosing s m o ≡ refused n) ↔ Refuses s m o n
 
 -- the table has no number for the choice
 abbrev pub Accepts : Sweep → ℤ → List ℕ → Type 0
-Accepts s m o = (n : ℕ) → ¬ (Refuses s m o n)
+Accepts s m o = (n : Reason) → ¬ (Refuses s m o n)
 
 -- ---- the search order, over the channels that pass a test
 
@@ -135,9 +138,9 @@ UnheardBytes = (s : Sweep) (m : ℤ) (o p : List ℕ) → OutcomesInRange o → 
 abbrev pub AnswersDiffer : Type 0
 AnswersDiffer = OneToOne toldChoice
 
--- and each case is told as what it says
+-- and each case is told as what it says, a refusal as its number and, where it has one, its place
 pub record AnswersTold : Type 0 where
   pub camps : (c n : ℕ) → toldChoice (choice.Camp c n) ≡ gives (camp c n)
   pub reads : (c n : ℕ) → toldChoice (choice.Read c n) ≡ gives (read c n)
   pub none : (n : ℕ) → toldChoice (choice.NoBeam n) ≡ gives (noBeam n)
-  pub refuses : (r : Refusal) → toldChoice (choice.Refused r) ≡ refused (numberOf r)
+  pub refuses : (r : Refusal) → toldChoice (choice.Refused r) ≡ refused (reasonOf r)

@@ -1,4 +1,4 @@
--- The answer of a choice in document 01's terms: the refusal number, or the values.
+-- The answer of a choice in document 01's terms: what is told of a refusal, or the values.
 use Rattle.refusal.specs.Told.{Told, refusedFor, gives}
 use Rattle.choice_rules.specs.Choose.{Chosen, camp, read, noBeam}
 use Rattle.choice_rules.specs.declared.Choice.{Choice}

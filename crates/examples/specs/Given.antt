@@ -67,6 +67,10 @@ heardAt bits = Heard (record { level = single bits; quality = single 0 })
 abbrev pub answerAfter : List Call → Call → Told Given
 answerAfter ks k = called (afterFrom fresh ks) k .answer
 
+-- channel 100 serves alone
+abbrev pub serving : List Call
+serving = start 100 15 ∷ []
+
 -- "Two levels -1 and -2": -0.01 and -0.02 dBm, for channel 100
 abbrev pub twoLevels : List Call
 twoLevels = start 100 15 ∷ file 100 (heardAt 0xbc23_d70a) ∷ file 100 (heardAt 0xbca3_d70a) ∷ []

@@ -4,13 +4,14 @@
 use mathlib.Core.Path.{_≡_}
 use mathlib.Core.List.{List, [], _∷_}
 use lib.IntN.{pos}
+use Rattle.refusal.specs.declared.Reason.the-variants.{Alone, At}
 use Rattle.refusal.specs.Told.{refused, gives}
 use Rattle.readings_rules.specs.Hundredths.{levelOf, qualityOf}
 use Rattle.choice_rules.specs.Choose.{camp, read, noBeam, choosing}
-use Rattle.watch_rules.specs.Told.{start, ask, verdict, levels, wait, stay, moveTo}
+use Rattle.watch_rules.specs.Told.{start, newList, ask, verdict, levels, wait, stay, moveTo}
 use Rattle.power_rules.specs.declared.Decoded.the-variants.{Failed, Codes}
 use Rattle.power_rules.specs.Calls.{stepped}
-use Rattle.examples.specs.Given.{minus, single, nothingHeard, threeHeard, nothingRead, threeRead, answerAfter, twoLevels, twoChannels, firstAndMore, parameters, unequalGains, atStart, parOf, pansSent}
+use Rattle.examples.specs.Given.{minus, single, nothingHeard, threeHeard, nothingRead, threeRead, answerAfter, serving, twoLevels, twoChannels, firstAndMore, parameters, unequalGains, atStart, parOf, pansSent}
 
 -- a row: what the definitions give, and what the paper says
 infixl 70 _comesTo_
@@ -28,8 +29,8 @@ table =
     -- "P level -150 gives -15,000."
     ∷ levelOf (single 0xc316_0000) comesTo gives (minus 15000)
     -- "The next single float below -150 and NaN: refusal 1."
-    ∷ levelOf (single 0xc316_0001) comesTo refused 1
-    ∷ levelOf (single 0x7fc0_0000) comesTo refused 1
+    ∷ levelOf (single 0xc316_0001) comesTo refused (Alone 1)
+    ∷ levelOf (single 0x7fc0_0000) comesTo refused (Alone 1)
     -- "P margin 300, nothing read: read 100, tried 1."
     ∷ choosing threeHeard (pos 300) nothingRead comesTo gives (read 100 1)
     -- "P 100 barred, 200 other network, 300 suitable: camp 300, tried 3."
@@ -65,9 +66,18 @@ table =
     ∷ answerAfter (firstAndMore 30) (ask 100) comesTo gives (levels 31 (minus 97))
     ∷ answerAfter (firstAndMore 31) (ask 100) comesTo gives (levels 31 (minus 100))
     -- a depth outside 5 to 31 is refused with 7, before a channel above 1,087 with 2
-    ∷ answerAfter [] (start 1088 4) comesTo refused 7
-    ∷ answerAfter [] (start 1088 32) comesTo refused 7
-    ∷ answerAfter [] (start 1088 31) comesTo refused 2
+    ∷ answerAfter [] (start 1088 4) comesTo refused (Alone 7)
+    ∷ answerAfter [] (start 1088 32) comesTo refused (Alone 7)
+    ∷ answerAfter [] (start 1088 31) comesTo refused (Alone 2)
+    -- document 02, E2, where 100 serves. A list of seven is refused with 11, whatever stands in it
+    ∷ answerAfter serving (newList (1088 ∷ 100 ∷ 200 ∷ 200 ∷ 300 ∷ 400 ∷ 500 ∷ [])) comesTo refused (Alone 11)
+    -- else the first faulty place is told: a channel above 1,087, the serving channel, a repeat at its second place
+    ∷ answerAfter serving (newList (200 ∷ 1088 ∷ 100 ∷ [])) comesTo refused (At 12 1)
+    ∷ answerAfter serving (newList (200 ∷ 100 ∷ 1088 ∷ [])) comesTo refused (At 14 1)
+    ∷ answerAfter serving (newList (200 ∷ 300 ∷ 200 ∷ 100 ∷ [])) comesTo refused (At 13 2)
+    -- on an idle watch nobody serves, and the list comes before 6
+    ∷ answerAfter [] (newList (100 ∷ 100 ∷ [])) comesTo refused (At 13 1)
+    ∷ answerAfter [] (newList (100 ∷ [])) comesTo refused (Alone 6)
     ∷ []
 
 -- both sides of a row are the same

@@ -11,7 +11,7 @@ use Rattle.watch_rules.specs.declared.Answer.{Answer}
 use Rattle.watch_rules.specs.declared.Answer.the-variants.{Accepted, Refused, Levels, Wait, Stay, MoveTo}
 use Rattle.watch_rules.specs.Told.{told}
 use Rattle.watch_rules.proofs.Answer.{the-type}
-use Rattle.host_rules.specs.Answers.{acceptedNumber, refusalNumber, noLevels, levelsAnswer, noVerdict, verdictAnswer}
+use Rattle.host_rules.specs.Answers.{acceptedNumber, refusalNumber, noPlace, refusalPlace, noLevels, levelsAnswer, noVerdict, verdictAnswer}
 
 -- a key is among the keys, which computes
 abbrev among : List ℕ → ℕ → Bool
@@ -35,13 +35,14 @@ one-among (k ∷ []) x e = first (eqb x k) false (is-key x k e)
 one-among (k ∷ j ∷ ks) x t =
     ⊎-elim (λ (e : x ≡ k). first (eqb x k) _ (is-key x k e)) (λ (u : OneOf (j ∷ ks) x). later (eqb x k) _ (one-among (j ∷ ks) x u)) t
 
-pub not-refused : (a : Answer) → OneOf (0 ∷ 2 ∷ 3 ∷ 4 ∷ 5 ∷ []) (tagOf the-type a) → acceptedNumber ≡ refusalNumber (told a)
-not-refused Accepted t = refl
+pub not-refused : (a : Answer) → OneOf (0 ∷ 2 ∷ 3 ∷ 4 ∷ 5 ∷ []) (tagOf the-type a)
+    → (acceptedNumber ≡ refusalNumber (told a)) × (noPlace ≡ refusalPlace (told a))
+not-refused Accepted t = (refl, refl)
 not-refused (Refused r) t = absurd (one-among (0 ∷ 2 ∷ 3 ∷ 4 ∷ 5 ∷ []) 1 t)
-not-refused (Levels n m) t = refl
-not-refused Wait t = refl
-not-refused Stay t = refl
-not-refused (MoveTo c) t = refl
+not-refused (Levels n m) t = (refl, refl)
+not-refused Wait t = (refl, refl)
+not-refused Stay t = (refl, refl)
+not-refused (MoveTo c) t = (refl, refl)
 
 pub not-levels : (a : Answer) → OneOf (0 ∷ 1 ∷ 3 ∷ 4 ∷ 5 ∷ []) (tagOf the-type a) → noLevels (refusalNumber (told a)) ≡ levelsAnswer (told a)
 not-levels Accepted t = refl

@@ -1,12 +1,13 @@
 // Each answer of the library as a host finds it (the crate `host_rules` has the structs and the rule). The calls stand in the crate `royukezan`.
 ghost use mathlib.Core.Path.{_≡_};
+ghost use Rattle.refusal.specs.Number.{reasonOf};
 ghost use Rattle.refusal.specs.Told.{toldOutcome};
 ghost use Rattle.readings_rules.specs.Told.{toldHundredths, toldShown, toldBurst};
 ghost use Rattle.sweep_rules.specs.Told.{toldNext, toldNumbers};
 ghost use Rattle.choice_rules.specs.Told.{toldChoice};
 ghost use Rattle.watch_rules.specs.Told.{told, toldHanded};
 ghost use Rattle.power_rules.specs.Told.{toldAnswer};
-ghost use Rattle.host_rules.specs.Answers.{refusalNumber, hundredthsAnswer, floatAnswer, burstAnswer, sweepBeside, nextAnswer, countsAnswer, choiceAnswer, watchOutcome, levelsAnswer, verdictAnswer, powerBeside, sentAnswer, sentBeside};
+ghost use Rattle.host_rules.specs.Answers.{refusalNumber, placeIn, refusalPlace, hundredthsAnswer, floatAnswer, burstAnswer, sweepBeside, nextAnswer, countsAnswer, choiceAnswer, watchOutcome, levelsAnswer, verdictAnswer, powerBeside, sentAnswer, sentBeside};
 use choice_rules::Choice;
 use choice_rules::SweepChoice;
 pub use host_rules::BurstAnswer;
@@ -27,6 +28,8 @@ use readings_rules::BurstHundredths;
 use readings_rules::Hundredths;
 use readings_rules::Shown;
 use refusal::Outcome;
+use refusal::Reason;
+use refusal::Refusal;
 use sweep_rules::NextChannel;
 use sweep_rules::Numbers;
 use sweep_rules::SweepNext;
@@ -36,6 +39,9 @@ use watch_rules::Handed;
 
 // The number of an accepted call.
 const ACCEPTED: u32 = 0;
+
+// Where no place is told. A place has 16 bits.
+const NO_PLACE: u32 = 4294967295;
 
 // The cases of a next channel, of a choice and of a verdict. A refused call has none of them: 0.
 const A_CHANNEL: u16 = 1;
@@ -210,6 +216,26 @@ fn answer_number(a: Answer) -> u32
     ACCEPTED
 }
 
+// The place that is told of a refusal.
+fn refusal_place(why: Refusal) -> u32
+    ensures { λ n. ⌜ n ≡ placeIn (reasonOf why) ⌝ }
+{
+    match refusal::told(why) {
+        Reason::Alone(_) => NO_PLACE,
+        Reason::At { number: _, place } => place as u32,
+    }
+}
+
+// The place of a call on a watch.
+fn answer_place(a: Answer) -> u32
+    ensures { λ n. ⌜ n ≡ refusalPlace (told a) ⌝ }
+{
+    if let Answer::Refused(why) = a {
+        return refusal_place(why);
+    }
+    NO_PLACE
+}
+
 pub fn watch_outcome(h: Handed) -> WatchOutcome
     ensures { λ r. ⌜ r ≡ watchOutcome (toldHanded h) ⌝ }
 {
@@ -217,6 +243,7 @@ pub fn watch_outcome(h: Handed) -> WatchOutcome
     let answer = h.answer;
     WatchOutcome {
         refusal: answer_number(answer),
+        place: answer_place(answer),
         watch,
     }
 }

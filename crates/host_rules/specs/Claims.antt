@@ -1,30 +1,31 @@
 -- What is claimed of the answers beyond the contracts; proved in `proofs/Claims.antt` under the same name.
 use Prim.Native.Nat.{ℕ}
 use mathlib.Core.Path.{_≡_}
+use mathlib.Core.List.{List}
 use lib.IntN.{ℤ}
-use Rattle.refusal.specs.declared.Outcome.{Outcome}
-use Rattle.refusal.specs.Told.{toldOutcome}
-use Rattle.refusal.specs.Claims.{OneToOne}
-use Rattle.readings_rules.specs.declared.Hundredths.{Hundredths}
-use Rattle.readings_rules.specs.declared.Shown.{Shown}
+use Rattle.refusal.specs.Told.{Told, acceptance}
 use Rattle.readings_rules.specs.declared.Reading.{Reading}
+use Rattle.readings_rules.specs.declared.Burst.{Burst}
 use Rattle.readings_rules.specs.declared.Burst.the-variants.{Heard}
+use Rattle.readings_rules.specs.Hundredths.{levelOf, qualityOf}
+use Rattle.readings_rules.specs.Back.{levelBack, qualityBack}
+use Rattle.readings_rules.specs.Float.{levelShown, qualityShown}
 use Rattle.readings_rules.specs.Burst.{burstOf}
-use Rattle.readings_rules.specs.Told.{toldHundredths, toldShown}
-use Rattle.sweep_rules.specs.declared.SweepOutcome.{SweepOutcome}
-use Rattle.sweep_rules.specs.declared.NextChannel.{NextChannel}
-use Rattle.sweep_rules.specs.declared.Numbers.{Numbers}
-use Rattle.sweep_rules.specs.Told.{toldNext, toldNumbers}
-use Rattle.choice_rules.specs.declared.Choice.{Choice}
-use Rattle.choice_rules.specs.Told.{toldChoice}
+use Rattle.sweep_rules.specs.declared.Sweep.{Sweep}
+use Rattle.sweep_rules.specs.Filing.{filing, leaves, checking}
+use Rattle.sweep_rules.specs.Next.{nextTold}
+use Rattle.sweep_rules.specs.Counts.{countsTold}
+use Rattle.choice_rules.specs.Choose.{choosing}
 use Rattle.watch_rules.specs.declared.Watch.{Watch}
 use Rattle.watch_rules.specs.Told.{Call, start, newList, move, file, ask, verdict}
-use Rattle.watch_rules.specs.Record.{called, tested}
-use Rattle.power_rules.specs.declared.Answer.{Answer}
-use Rattle.power_rules.specs.declared.Handed.{Handed}
-use Rattle.power_rules.specs.declared.Stepped.{Stepped}
-use Rattle.power_rules.specs.Told.{toldAnswer}
-use Rattle.host_rules.specs.Answers.{refusalNumber, hundredthsAnswer, floatAnswer, burstAnswer, sweepBeside, nextAnswer, countsAnswer, choiceAnswer, watchOutcome, levelsAnswer, verdictAnswer, powerBeside, sentAnswer, sentBeside}
+use Rattle.watch_rules.specs.Record as watches
+use Rattle.watch_rules.specs.Record.{called}
+use Rattle.power_rules.specs.declared.PowerParameters.{PowerParameters}
+use Rattle.power_rules.specs.declared.PowerRecord.{PowerRecord}
+use Rattle.power_rules.specs.declared.Decoded.{Decoded}
+use Rattle.power_rules.specs.Calls as powers
+use Rattle.power_rules.specs.Calls.{HandedBack, ToSend, started, stepped}
+use Rattle.host_rules.specs.Answers.{refusalNumber, hundredthsAnswer, floatAnswer, burstAnswer, sweepBeside, nextAnswer, countsAnswer, choiceAnswer, watchOutcome, levelsAnswer, verdictAnswer, powerOutcome, sentAnswer, sentOutcome}
 
 -- f is one-to-one over what g gives
 abbrev pub OneToOneOver : {A B C : Type 0} → (A → B) → (B → C) → Type 0
@@ -45,23 +46,46 @@ pub record Changing : Type 0 where
   pub call : Call
   pub changes : Changes call
 
--- nothing is lost at the border: the numbers that a host finds fix the library's answer, its case and its values, and the record beside them.
--- Where the library has one type for answers of several calls, this is said over what the calls give
+-- a filing in a sweep, and what it hands back: the sweep, and its answer
+pub record Filing : Type 0 where
+  pub sweep : Sweep
+  pub channel : ℕ
+  pub burst : Burst
+
+abbrev pub filed : Filing → Sweep × Told Unit
+filed x = (leaves (x .sweep) (filing (x .sweep) (x .channel) (x .burst)), acceptance (filing (x .sweep) (x .channel) (x .burst)))
+
+-- a power step
+pub record Step : Type 0 where
+  pub parameters : PowerParameters
+  pub power : PowerRecord
+  pub decoded : Decoded
+  pub sqi : ℤ
+
+abbrev pub stepOf : Step → HandedBack ToSend
+stepOf x = stepped (x .parameters) (x .power) (x .decoded) (x .sqi)
+
+-- nothing is lost at the border: the numbers that a host finds fix what is told of the call, a place too, and the record beside it. It is said
+-- over what each call gives; and what is told fixes the library's answer (`AnswersDiffer` of each part)
 pub record NothingLost : Type 0 where
-  -- the test of a sweep and of a power record: the number alone
-  pub number : OneToOne (λ (a : Outcome). refusalNumber (toldOutcome a))
-  pub hundredths : OneToOne (λ (a : Hundredths). hundredthsAnswer (toldHundredths a))
-  pub float : OneToOne (λ (a : Shown). floatAnswer (toldShown a))
+  pub level : OneToOneOver levelOf hundredthsAnswer
+  pub quality : OneToOneOver qualityOf hundredthsAnswer
+  pub levelBack : OneToOneOver levelBack hundredthsAnswer
+  pub qualityBack : OneToOneOver qualityBack hundredthsAnswer
+  pub levelShown : OneToOneOver levelShown floatAnswer
+  pub qualityShown : OneToOneOver qualityShown floatAnswer
   pub burst : OneToOneOver (λ (r : Reading). burstOf (Heard r)) burstAnswer
-  pub sweep : OneToOne (λ (h : SweepOutcome). sweepBeside (h .sweep) (toldOutcome (h .answer)))
-  pub next : OneToOne (λ (a : NextChannel). nextAnswer (toldNext a))
-  pub counts : OneToOne (λ (a : Numbers). countsAnswer (toldNumbers a))
-  pub choice : OneToOne (λ (a : Choice). choiceAnswer (toldChoice a))
+  pub sweep : OneToOneOver filed (λ (h : Sweep × Told Unit). sweepBeside (h .0) (h .1))
+  pub next : OneToOneOver nextTold nextAnswer
+  pub counts : OneToOneOver countsTold countsAnswer
+  pub choice : OneToOneOver (λ (x : Sweep × ℤ × List ℕ). choosing (x .0) (x .1) (x .2)) choiceAnswer
   pub watch : OneToOneOver (λ (x : Changing). called (x .watch) (x .call)) watchOutcome
-  -- the test of a watch: the number alone
-  pub watchNumber : OneToOneOver (λ (w : Watch). tested w .answer) refusalNumber
   pub levels : OneToOneOver (λ (x : Watch × ℕ). called (x .0) (ask (x .1)) .answer) levelsAnswer
   pub verdict : OneToOneOver (λ (x : Watch × ℤ). called (x .0) (verdict (x .1)) .answer) verdictAnswer
-  pub power : OneToOne (λ (h : Handed). powerBeside (h .power) (toldOutcome (h .answer)))
-  pub sent : OneToOne (λ (a : Answer). sentAnswer (toldAnswer a))
-  pub step : OneToOne (λ (h : Stepped). sentBeside (h .power) (toldAnswer (h .answer)))
+  pub power : OneToOneOver started powerOutcome
+  pub sent : OneToOneOver (λ (x : Step). stepOf x .answer) sentAnswer
+  pub step : OneToOneOver stepOf sentOutcome
+  -- the tests of a sweep, a watch and a power record: the number alone
+  pub sweepNumber : OneToOneOver checking refusalNumber
+  pub watchNumber : OneToOneOver (λ (w : Watch). watches.tested w .answer) refusalNumber
+  pub powerNumber : OneToOneOver (λ (r : PowerRecord). powers.tested r .answer) refusalNumber

@@ -1,6 +1,7 @@
 // The answers of the library as C and Rust hosts find them: structs of numbers, of which the first is the refusal number, 0 for accepted; then
-// come the values, 0 when refused. A call that changes a record hands it back beside these. `specs/Answers.antt` has the rule. What makes
-// them of the library's answers stands in the crate `host_answers`, the calls in `royukezan`.
+// come the values, 0 when refused. Where a refusal may tell a place, it stands beside the number. A call that changes a record hands it back
+// beside these. `specs/Answers.antt` has the rule. What makes them of the library's answers stands in the crate `host_answers`, the calls in
+// `royukezan`.
 ghost use Rattle.host_rules.specs.Claims.{NothingLost};
 use power_rules::PowerRecord;
 use sweep_rules::Sweep;
@@ -60,10 +61,11 @@ pub struct ChoiceAnswer {
     pub tried: u32,
 }
 
-// What a call that may change the watch hands back.
+// What a call that may change the watch hands back. The place is that of a faulty list, NO_PLACE where none is told.
 #[repr(C)]
 pub struct WatchOutcome {
     pub refusal: u32,
+    pub place: u32,
     pub watch: Watch,
 }
 

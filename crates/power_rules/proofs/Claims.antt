@@ -36,13 +36,14 @@ startsWellFormed p =
     (λ e. rw e (fresh-formed 0 (omega arith)))
 
 pub staysWellFormed : StaysWellFormed
-unfolding sending
 staysWellFormed p r d sqi f = step-cases p r d sqi (λ (h : HandedBack ToSend). WellFormed (h .power)) (λ why. f) (λ _ _ _. formed-after p r d f)
 
 -- ---- refusals
 pub refusedKeepsRecord : RefusedKeepsRecord
-unfolding sending
-refusedKeepsRecord p r d sqi n = step-cases p r d sqi (λ (h : HandedBack ToSend). h .answer ≡ refused n → h .power ≡ r) (λ why e. refl) (λ _ _ _ e. absurd (gives-refused e))
+refusedKeepsRecord p r d sqi n =
+    step-cases p r d sqi (λ (h : HandedBack ToSend). h .answer ≡ refused n → h .power ≡ r)
+    (λ why e. refl)
+    (λ _ _ _ e. absurd (gives-refused e))
 
 pub testKeepsRecord : TestKeepsRecord
 unfolding tested
@@ -100,7 +101,7 @@ answer-back (Send par pan) = refl
 answer-back (Refused r) = ap Refused (refusal-back r)
 
 pub answersTold : AnswersTold
-answersTold = record { codes = λ par pan. refl; number = λ why. refl }
+answersTold = record { codes = λ par pan. refl; reason = λ why. refl }
 
 pub answersDiffer : AnswersDiffer
 answersDiffer = by-way-back toldAnswer answerOf answer-back

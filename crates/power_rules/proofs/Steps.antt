@@ -25,15 +25,16 @@ abbrev pub Tells : Stepped → HandedBack ToSend → Type 0
 Tells s h = (s .power ≡ h .power) × (toldAnswer (s .answer) ≡ h .answer)
 
 module _ (p : PowerParameters) (r : PowerRecord) (d : Decoded) (sqi : ℤ) where
-  refuse : (s : Stepped) (why : Refusal) → stepped p r d sqi ≡ record { power = r; answer = refusedFor why } → (s .power ≡ r) × (s .answer ≡ Refused why) → Tells s (stepped p r d sqi)
+  refuse : (s : Stepped) (why : Refusal) → stepped p r d sqi ≡ record { power = r; answer = refusedFor why }
+      → (s .power ≡ r) × (s .answer ≡ Refused why) → Tells s (stepped p r d sqi)
   refuse s why e h = rw e (h .0, ap toldAnswer (h .1))
 
   pub refuse-9 : (s : Stepped) → (s .power ≡ r) × (s .answer ≡ Refused RecordNotWellFormed) → wellFormed r ≡ false → Tells s (stepped p r d sqi)
   unfolding stepped
   refuse-9 s h f = refuse s RecordNotWellFormed (rw f) h
 
-  pub refuse-7 : (s : Stepped) → (s .power ≡ r) × (s .answer ≡ Refused ParameterOutOfRange) → wellFormed r ≡ true → (parametersInRange p && codesInRange d) ≡ false
-      → Tells s (stepped p r d sqi)
+  pub refuse-7 : (s : Stepped) → (s .power ≡ r) × (s .answer ≡ Refused ParameterOutOfRange) → wellFormed r ≡ true
+      → (parametersInRange p && codesInRange d) ≡ false → Tells s (stepped p r d sqi)
   unfolding stepped
   refuse-7 s h f g = refuse s ParameterOutOfRange (rw (f, g)) h
 
@@ -42,11 +43,13 @@ module _ (p : PowerParameters) (r : PowerRecord) (d : Decoded) (sqi : ℤ) where
   unfolding stepped
   refuse-1 s h f g q = refuse s ReadingOutOfRange (rw (f, g, q)) h
 
-  stepped-is : wellFormed r ≡ true → (parametersInRange p && codesInRange d) ≡ true → qualityInRange sqi ≡ true → stepped p r d sqi ≡ sending p r d sqi
+  stepped-is : wellFormed r ≡ true → (parametersInRange p && codesInRange d) ≡ true → qualityInRange sqi ≡ true
+      → stepped p r d sqi ≡ record { power = recordAfter p r d; answer = gives (sending p r d sqi) }
   unfolding stepped
   stepped-is f g q = rw (f, g, q)
 
-  pub accept : (s : Stepped) (n : ℕ) → (s .power ≡ recordAfter p r d) × (s .answer ≡ Send (parAt p (panUse r d) n) (panAt p (recordAfter p r d))) → n ≡ aboveLowest sqi
+  pub accept : (s : Stepped) (n : ℕ)
+      → (s .power ≡ recordAfter p r d) × (s .answer ≡ Send (parAt p (panUse r d) n) (panAt p (recordAfter p r d))) → n ≡ aboveLowest sqi
       → wellFormed r ≡ true → (parametersInRange p && codesInRange d) ≡ true → qualityInRange sqi ≡ true → Tells s (stepped p r d sqi)
   unfolding sending
   accept s n h e f g q =
@@ -56,7 +59,8 @@ module _ (p : PowerParameters) (r : PowerRecord) (d : Decoded) (sqi : ℤ) where
 
   -- what holds of every refusal, and of an accepted step where all tests are passed, holds of the step
   pub step-cases : (P : HandedBack ToSend → Type 0) → ((why : Refusal) → P (record { power = r; answer = refusedFor why }))
-      → (wellFormed r ≡ true → (parametersInRange p && codesInRange d) ≡ true → qualityInRange sqi ≡ true → P (sending p r d sqi))
+      → (wellFormed r ≡ true → (parametersInRange p && codesInRange d) ≡ true → qualityInRange sqi ≡ true
+      → P (record { power = recordAfter p r d; answer = gives (sending p r d sqi) }))
       → P (stepped p r d sqi)
   unfolding stepped
   step-cases P refusal acceptance = by-test (wellFormed r) formed-record (λ f. rw f (refusal RecordNotWellFormed))

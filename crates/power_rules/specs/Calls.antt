@@ -1,9 +1,8 @@
 -- What each call on a power record hands back. Document 01, sections Power steps and Refusal numbers.
-use mathlib.Core.Bool.{Bool, true, false, _&&_}
+use mathlib.Core.Bool.{_&&_}
 use lib.IntN.{ℤ}
-use Rattle.refusal.specs.declared.Refusal.{Refusal}
 use Rattle.refusal.specs.declared.Refusal.the-variants.{ReadingOutOfRange, ParameterOutOfRange, RecordNotWellFormed}
-use Rattle.refusal.specs.Told.{Told, refusedFor, gives, accepted}
+use Rattle.refusal.specs.Told.{Told, accepted, provided, giving, unlessRefused}
 use Rattle.readings_rules.specs.Ranges.{qualityInRange}
 use Rattle.power_rules.specs.declared.PowerParameters.{PowerParameters}
 use Rattle.power_rules.specs.declared.PowerRecord.{PowerRecord}
@@ -20,27 +19,27 @@ pub record ToSend : Type 0 where
   pub par : ℤ
   pub pan : ℤ
 
--- the rest where the test holds; else refused for this reason, with this record
-abbrev pub provided : {A : Type 0} → Bool → Refusal → PowerRecord → HandedBack A → HandedBack A
-provided true why r rest = rest
-provided false why r rest = record { power = r; answer = refusedFor why }
+-- a call that is allowed hands back the record after it and answers this value; refused, the record before it
+abbrev pub handing : {A : Type 0} → Told Unit → PowerRecord → PowerRecord → A → HandedBack A
+handing allowed before after value = record { power = unlessRefused allowed before after; answer = giving allowed value }
 
 -- "A start of a power record is given none; refused, it returns one of all zeros." Refusal 7
 unfoldable pub started : PowerParameters → HandedBack Unit
-started p = provided (parametersInRange p) ParameterOutOfRange allZeros (record { power = freshWith (p .paninit); answer = accepted })
+started p = handing (provided (parametersInRange p) ParameterOutOfRange accepted) allZeros (freshWith (p .paninit)) tt
 
 -- the test of a record: refusal 9, and the record it was given
 unfoldable pub tested : PowerRecord → HandedBack Unit
-tested r = provided (wellFormed r) RecordNotWellFormed r (record { power = r; answer = accepted })
+tested r = handing (provided (wellFormed r) RecordNotWellFormed accepted) r r tt
 
--- what an accepted step answers, and the record that it leaves
-unfoldable pub sending : PowerParameters → PowerRecord → Decoded → ℤ → HandedBack ToSend
-sending p r d sqi = record { power = recordAfter p r d; answer = gives (record { par = parToSend p (panUse r d) sqi; pan = panToSend p (recordAfter p r d) }) }
+-- the codes that an accepted step sends
+unfoldable pub sending : PowerParameters → PowerRecord → Decoded → ℤ → ToSend
+sending p r d sqi = record { par = parToSend p (panUse r d) sqi; pan = panToSend p (recordAfter p r d) }
 
 -- a step: refusals 9, 7, 1 in this order, each with the record it was given. SQI is tested also where decoding failed
 unfoldable pub stepped : PowerParameters → PowerRecord → Decoded → ℤ → HandedBack ToSend
 stepped p r d sqi =
-    provided (wellFormed r) RecordNotWellFormed r
-    (provided (parametersInRange p && codesInRange d) ParameterOutOfRange r
-    (provided (qualityInRange sqi) ReadingOutOfRange r
-    (sending p r d sqi)))
+    handing
+    (provided (wellFormed r) RecordNotWellFormed
+    (provided (parametersInRange p && codesInRange d) ParameterOutOfRange
+    (provided (qualityInRange sqi) ReadingOutOfRange accepted)))
+    r (recordAfter p r d) (sending p r d sqi)

@@ -5,7 +5,9 @@ use mathlib.Core.Logic.{_↔_}
 use lib.IntN.{ℤ, pos, _-ℤ_, _*ℤ_}
 use lib.Signed.{shrZ, _≤ℤ_, _<ℤ_}
 use Rattle.refusal.specs.declared.Refusal.{Refusal}
-use Rattle.refusal.specs.Number.{numberOf}
+use Rattle.refusal.specs.declared.Reason.{Reason}
+use Rattle.refusal.specs.declared.Reason.the-variants.{Alone}
+use Rattle.refusal.specs.Number.{reasonOf}
 use Rattle.refusal.specs.Told.{refused, gives}
 use Rattle.refusal.specs.Claims.{OneToOne}
 use Rattle.readings_rules.specs.Rounding.{NearestLower}
@@ -28,7 +30,8 @@ StaysWellFormed = (p : PowerParameters) (r : PowerRecord) (d : Decoded) (sqi : �
 
 -- a refused step hands back the record it was given
 abbrev pub RefusedKeepsRecord : Type 0
-RefusedKeepsRecord = (p : PowerParameters) (r : PowerRecord) (d : Decoded) (sqi : ℤ) (n : ℕ) → stepped p r d sqi .answer ≡ refused n → stepped p r d sqi .power ≡ r
+RefusedKeepsRecord = (p : PowerParameters) (r : PowerRecord) (d : Decoded) (sqi : ℤ) (n : Reason) → stepped p r d sqi .answer ≡ refused n
+    → stepped p r d sqi .power ≡ r
 
 -- the test of a record hands back the record it was given, accepted or refused
 abbrev pub TestKeepsRecord : Type 0
@@ -56,9 +59,9 @@ RoundsDown = (n : ℤ) (d : ℕ) → 0 < d → RoundedDown n d (shrZ n d)
 
 -- each call is refused with a number exactly when the table says so: a start with 7, the test of a record with 9
 pub record RefusalRule : Type 0 where
-  pub starts : (p : PowerParameters) (n : ℕ) → (started p .answer ≡ refused n) ↔ ((n ≡ 7) × (¬ (InRange p)))
-  pub tests : (r : PowerRecord) (n : ℕ) → (tested r .answer ≡ refused n) ↔ ((n ≡ 9) × (¬ (WellFormed r)))
-  pub steps : (p : PowerParameters) (r : PowerRecord) (d : Decoded) (sqi : ℤ) (n : ℕ) → (stepped p r d sqi .answer ≡ refused n) ↔ Refuses p r d sqi n
+  pub starts : (p : PowerParameters) (n : Reason) → (started p .answer ≡ refused n) ↔ ((n ≡ Alone 7) × (¬ (InRange p)))
+  pub tests : (r : PowerRecord) (n : Reason) → (tested r .answer ≡ refused n) ↔ ((n ≡ Alone 9) × (¬ (WellFormed r)))
+  pub steps : (p : PowerParameters) (r : PowerRecord) (d : Decoded) (sqi : ℤ) (n : Reason) → (stepped p r d sqi .answer ≡ refused n) ↔ Refuses p r d sqi n
 
 -- "The record starts with PANlast = PARsave = PANbasic = PANinit, increase 0."; "refused, it returns one of all zeros"
 pub record StartsWith (p : PowerParameters) : Type 0 where
@@ -120,10 +123,10 @@ StepRule = (p : PowerParameters) (r : PowerRecord) (d : Decoded) (sqi : ℤ) (s 
 
 -- ---- answers
 
--- an answer tells its codes, each under its name, and a refusal its number
+-- an answer tells its codes, each under its name, and a refusal its number and, where it has one, its place
 pub record AnswersTold : Type 0 where
   pub codes : (par pan : ℕ) → toldAnswer (Send par pan) ≡ gives (record { par = pos par; pan = pos pan })
-  pub number : (why : Refusal) → toldAnswer (Refused why) ≡ refused (numberOf why)
+  pub reason : (why : Refusal) → toldAnswer (Refused why) ≡ refused (reasonOf why)
 
 -- what is told of an answer fixes its case and codes
 abbrev pub AnswersDiffer : Type 0

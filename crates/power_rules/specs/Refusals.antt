@@ -1,8 +1,10 @@
 -- Document 01, sections Power steps and Refusal numbers, in its own words: the ranges by `≤`, without the tests of `PowerSteps`.
 -- `Claims.RefusalRule` says that the calls refuse exactly so.
-use Prim.Native.Nat.{ℕ, _≤_, _%_}
+use Prim.Native.Nat.{_≤_, _%_}
 use mathlib.Core.Path.{_≡_}
 use lib.IntN.{ℤ}
+use Rattle.refusal.specs.declared.Reason.{Reason}
+use Rattle.refusal.specs.declared.Reason.the-variants.{Alone}
 use Rattle.readings_rules.specs.Claims.{QualityInRange}
 use Rattle.power_rules.specs.declared.PowerParameters.{PowerParameters}
 use Rattle.power_rules.specs.declared.PowerRecord.{PowerRecord}
@@ -33,12 +35,13 @@ pub record WellFormed (r : PowerRecord) : Type 0 where
   pub increase : r .increase ≤ 24000
   pub multiple : r .increase % 200 ≡ 0
 
--- the table, for a step: it is refused with this number. "Several at once: 9, .. 7, .. 1.": a later number only where no earlier one is given
-pub data Refuses (p : PowerParameters) (r : PowerRecord) (d : Decoded) (sqi : ℤ) : ℕ → Type 0 where
+-- the table, for a step: it is refused with this number, and no place is told. "Several at once: 9, .. 7, .. 1.": a later number only where no
+-- earlier one is given
+pub data Refuses (p : PowerParameters) (r : PowerRecord) (d : Decoded) (sqi : ℤ) : Reason → Type 0 where
   -- 9: "a record not well formed"
-  unformed : ¬ (WellFormed r) → Refuses p r d sqi 9
+  unformed : ¬ (WellFormed r) → Refuses p r d sqi (Alone 9)
   -- 7: "a .. power parameter out of range; PANmin above PANmax; a code above 63"
-  parameter : WellFormed r → ¬ (InRange p) → Refuses p r d sqi 7
-  code : WellFormed r → ¬ (CodesInRange d) → Refuses p r d sqi 7
+  parameter : WellFormed r → ¬ (InRange p) → Refuses p r d sqi (Alone 7)
+  code : WellFormed r → ¬ (CodesInRange d) → Refuses p r d sqi (Alone 7)
   -- 1: "a .. quality .. in hundredths, is outside its range", "-3,000 to 4,000"
-  quality : WellFormed r → InRange p → CodesInRange d → ¬ (QualityInRange sqi) → Refuses p r d sqi 1
+  quality : WellFormed r → InRange p → CodesInRange d → ¬ (QualityInRange sqi) → Refuses p r d sqi (Alone 1)

@@ -1,4 +1,4 @@
--- Each answer of the power steps in document 01's terms: the refusal number, or the two codes to send.
+-- Each answer of the power steps in document 01's terms: what is told of a refusal, or the two codes to send.
 use lib.IntN.{pos}
 use Rattle.refusal.specs.Told.{Told, refusedFor, gives}
 use Rattle.power_rules.specs.declared.Answer.{Answer}

@@ -1,6 +1,6 @@
 -- Hundredths shown as a float, and converted again, are the same hundredths.
 -- In units of 2 ^ -149, 100 times the float is less than half of 2 ^ 149 from n 2 ^ 149, where n is the size of the hundredths.
-use mathlib.Core.Path.{_≡_, sym, ap, _∙_, subst}
+use mathlib.Core.Path.{_≡_, refl, sym, ap, _∙_, subst}
 use mathlib.Core.Bool.{Bool, true, false, _&&_}
 use Prim.Native.Nat.{ℕ, _*_, _^_, _≤_, _<_, zero-le}
 use native.Mathlib.Nat.{zero-mul, mul-right-comm, mul-le-mul-right, le-of-mul-le-mul-right, le-trans, le-of-eq}
@@ -13,10 +13,13 @@ use lib.Ieee.{Float, nan, inf, fin, up, down, binary32, round}
 use lib.Ieee.Fits.{and-i}
 use lib.Ieee.Exact.{HasValue}
 use lib.Arith.{le-zero}
-use Rattle.refusal.specs.Told.{gives, refused}
+use Rattle.refusal.specs.declared.Refusal.the-variants.{ReadingOutOfRange}
+use Rattle.refusal.specs.declared.Reason.{Reason}
+use Rattle.refusal.specs.Told.{gives, refused, provided}
 use Rattle.refusal.proofs.OneToOne.{gives-refused}
+use Rattle.refusal.proofs.Provided.{same-reason}
 use Rattle.readings_rules.specs.Ranges.{inHundredths, inRange, levelLow, levelHigh, qualityLow, qualityHigh, levelInRange, qualityInRange}
-use Rattle.readings_rules.specs.Hundredths.{signed, within, converted, hundredthsOf, whereInRange, levelOf, qualityOf}
+use Rattle.readings_rules.specs.Hundredths.{signed, within, converted, hundredthsOf, levelOf, qualityOf}
 use Rattle.readings_rules.specs.Float.{floatOf, shown}
 use Rattle.readings_rules.specs.Claims.{Between, ReadsBack, ReadBack}
 use Rattle.readings_rules.proofs.Ranges.{in-words, by-words}
@@ -91,7 +94,8 @@ module _ (lo hi h : ℤ) (a : natAbs lo < 656) (b : natAbs hi < 656) where
       (subst (λ (z : ℤ). T (leZ z (hi *ℤ pos 100))) (sym (signed-is h)) (w .highest .le))) in
       inside-gives (hundredthsOf (floatOf h)) (within lo hi (floatOf h)) inside ∙ ap gives (hundredths-back h l)
 
-  reads : Between (inHundredths lo) (inHundredths hi) h → ReadsBack h (shown lo hi h) (converted lo hi) (whereInRange (inRange lo hi h) h)
+  reads : Between (inHundredths lo) (inHundredths hi) h
+      → ReadsBack h (shown lo hi h) (converted lo hi) (provided (inRange lo hi h) ReadingOutOfRange (gives h))
   unfolding shown
   reads w =
       let t : T (inRange lo hi h) = by-words lo hi h w in
@@ -104,19 +108,19 @@ module _ (lo hi h : ℤ) (a : natAbs lo < 656) (b : natAbs hi < 656) where
       }
 
   -- for the calls: of what `shown` tells, a float reads back as h, and a refusal stays
-  pub shown-back : (x : Float) → gives x ≡ shown lo hi h → converted lo hi x ≡ whereInRange (inRange lo hi h) h
+  pub shown-back : (x : Float) → gives x ≡ shown lo hi h → converted lo hi x ≡ provided (inRange lo hi h) ReadingOutOfRange (gives h)
   unfolding shown
   shown-back x e =
       let i = gives-inside (floatOf h) (inRange lo hi h) (sym e) in
       ap (converted lo hi) (sym (i .1)) ∙ read-back (i .0) ∙ sym (inside-gives h (inRange lo hi h) (i .0))
 
-  pub refused-back : (n : ℕ) → refused n ≡ shown lo hi h → refused n ≡ whereInRange (inRange lo hi h) h
+  pub refused-back : (n : Reason) → refused n ≡ shown lo hi h → refused n ≡ provided (inRange lo hi h) ReadingOutOfRange (gives h)
   unfolding shown
   refused-back n e = go (inRange lo hi h) e
     where
-      go : (t : Bool) → refused n ≡ whereInRange t (floatOf h) → refused n ≡ whereInRange t h
+      go : (t : Bool) → refused n ≡ provided t ReadingOutOfRange (gives (floatOf h)) → refused n ≡ provided t ReadingOutOfRange (gives h)
       go true e = absurd (gives-refused (sym e))
-      go false e = let same : n ≡ 1 = cc in ap refused same
+      go false e = ap refused (same-reason refl e)
 
 pub readBack : ReadBack
 readBack = record {

@@ -12,6 +12,8 @@ use lib.Signed.{leZ}
 use lib.Ieee.{Float, nan, inf, fin, up, down}
 use lib.Ieee.Bits.{is-true}
 use lib.Ieee.Fits.{down-pos, and-i, and-l, and-r}
+use Rattle.refusal.specs.declared.Reason.{Reason}
+use Rattle.refusal.specs.declared.Reason.the-variants.{Alone}
 use Rattle.refusal.specs.Told.{Told, gives, refused}
 use Rattle.refusal.proofs.OneToOne.{gives-refused}
 use Rattle.readings_rules.specs.declared.Burst.{Burst}
@@ -35,14 +37,14 @@ both-gives (gives a) (gives b) l q = (λ e. (cc, cc), λ h. cc)
 both-gives (gives a) (refused m) l q = (λ e. absurd (gives-refused (sym e)), λ h. absurd (gives-refused (sym (h .1))))
 both-gives (refused m) t l q = (λ e. absurd (gives-refused (sym e)), λ h. absurd (gives-refused (sym (h .0))))
 
-both-refused : (s t : Told ℤ) → ((m : ℕ) → s ≡ refused m → m ≡ 1) → ((m : ℕ) → t ≡ refused m → m ≡ 1)
-    → (n : ℕ) → (bothOf s t ≡ refused n) ↔ ((n ≡ 1) × ((s ≡ refused 1) ⊎ (t ≡ refused 1)))
+both-refused : (s t : Told ℤ) → ((m : Reason) → s ≡ refused m → m ≡ Alone 1) → ((m : Reason) → t ≡ refused m → m ≡ Alone 1)
+    → (n : Reason) → (bothOf s t ≡ refused n) ↔ ((n ≡ Alone 1) × ((s ≡ refused (Alone 1)) ⊎ (t ≡ refused (Alone 1))))
 both-refused (gives a) (gives b) f g n = (λ e. absurd (gives-refused e), λ h. absurd (⊎-elim gives-refused gives-refused (h .1)))
 both-refused (gives a) (refused m) f g n =
-    let one : m ≡ 1 = g m refl in
+    let one : m ≡ Alone 1 = g m refl in
     (λ e. (cc, inr (ap refused one)), λ h. ap refused (one ∙ sym (h .0)))
 both-refused (refused m) t f g n =
-    let one : m ≡ 1 = f m refl in
+    let one : m ≡ Alone 1 = f m refl in
     (λ e. (cc, inl (ap refused one)), λ h. ap refused (one ∙ sym (h .0)))
 
 pub burstRule : BurstRule
@@ -52,10 +54,10 @@ burstRule = record {
   either = λ r. both-refused (levelOf (r .level)) (qualityOf (r .quality)) (one levelLow levelHigh (r .level)) (one qualityLow qualityHigh (r .quality));
 }
   where
-    one : (low high : ℤ) (x : Float) (m : ℕ) → converted low high x ≡ refused m → m ≡ 1
+    one : (low high : ℤ) (x : Float) (m : Reason) → converted low high x ≡ refused m → m ≡ Alone 1
     one low high x m e = converts low high x .refuses m .0 e .0
 
-pub burst-1 : (b : Burst) (n : ℕ) → burstOf b ≡ refused n → n ≡ 1
+pub burst-1 : (b : Burst) (n : Reason) → burstOf b ≡ refused n → n ≡ Alone 1
 burst-1 (Heard r) n e = burstRule .either r n .0 e .0
 burst-1 Missed n e = absurd (gives-refused e)
 

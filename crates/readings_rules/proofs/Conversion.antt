@@ -7,26 +7,27 @@ use lib.IntN.{ℤ, pos, negℤ, _*ℤ_}
 use lib.Signed.{leZ, leZ-yes, _≤ℤ_}
 use lib.Ieee.{Float, nan, inf, fin, up, down}
 use lib.Ieee.Fits.{down-pos, and-i, and-l, and-r}
-use Rattle.refusal.specs.Told.{gives, refused}
+use Rattle.refusal.specs.declared.Refusal.the-variants.{ReadingOutOfRange}
+use Rattle.refusal.specs.Told.{gives, refused, provided}
 use Rattle.refusal.proofs.OneToOne.{gives-refused}
 use Rattle.readings_rules.specs.Ranges.{levelLow, levelHigh, qualityLow, qualityHigh}
 use Rattle.readings_rules.specs.Rounding.{NearestLower}
-use Rattle.readings_rules.specs.Hundredths.{numerator, within, hundredthsOf, whereInRange, converted}
+use Rattle.readings_rules.specs.Hundredths.{numerator, within, hundredthsOf, converted}
 use Rattle.readings_rules.specs.Claims.{RefusedOutside, Exactly, plus, minus, Within, Converts, ConversionRule}
 use Rattle.readings_rules.proofs.Rule.{roundingRule}
 
 -- ---- values where a test holds: refused with 1 exactly where its words do not hold
 
 module _ {A : Type 0} (a : A) where
-  pub refused-outside : {P : Type 0} (t : Bool) → (T t → P) → (P → T t) → RefusedOutside P (whereInRange t a)
+  pub refused-outside : {P : Type 0} (t : Bool) → (T t → P) → (P → T t) → RefusedOutside P (provided t ReadingOutOfRange (gives a))
   refused-outside true f g n = (λ e. absurd (gives-refused e), λ h. absurd (h .1 (f tt)))
   refused-outside false f g n = (λ e. (cc, g), λ h. ap refused (sym (h .0)))
 
-  pub inside-gives : (t : Bool) → T t → whereInRange t a ≡ gives a
+  pub inside-gives : (t : Bool) → T t → provided t ReadingOutOfRange (gives a) ≡ gives a
   inside-gives true i = refl
   inside-gives false i = absurd i
 
-  pub gives-inside : {b : A} (t : Bool) → whereInRange t a ≡ gives b → T t × (a ≡ b)
+  pub gives-inside : {b : A} (t : Bool) → provided t ReadingOutOfRange (gives a) ≡ gives b → T t × (a ≡ b)
   gives-inside true e = (tt, cc)
   gives-inside false e = absurd (gives-refused (sym e))
 

@@ -17,7 +17,8 @@ use lib.Ieee.Bits.{is-true}
 use lib.Ieee.Fits.{down-pos, and-l, and-r, eq→eqb}
 use Rattle.refusal.specs.declared.Refusal.the-variants.{ReadingOutOfRange}
 use Rattle.refusal.specs.Told.{gives, refusedFor}
-use Rattle.readings_rules.specs.Hundredths.{signed, within, converted, hundredthsOf, whereInRange}
+use Rattle.refusal.proofs.Provided.{refuse-now, refuse-later}
+use Rattle.readings_rules.specs.Hundredths.{signed, within, converted, hundredthsOf}
 use Rattle.readings_rules.specs.Code.{small}
 use Rattle.readings_rules.proofs.Signs.{neg-neg, pos-neg, isNeg, order, by-size, zero-factor}
 
@@ -164,15 +165,15 @@ module _ (lo hi : ℤ) (x : Float) (p : natAbs lo < 656) (q : natAbs hi < 656) w
 
   pub inside : (h : ℤ) → le (ofInt binary32 lo) x ≡ true → le x (ofInt binary32 hi) ≡ true → h ≡ hundredthsOf x → gives h ≡ converted lo hi x
   unfolding converted
-  inside h e f g = ap gives g ∙ ap (λ (b : Bool). whereInRange b (hundredthsOf x)) (sym (both e f))
+  inside h e f g = ap gives g ∙ sym (refuse-later ReadingOutOfRange (both e f) refl)
 
   pub too-high : le (ofInt binary32 lo) x ≡ true → le x (ofInt binary32 hi) ≡ false → refusedFor ReadingOutOfRange ≡ converted lo hi x
   unfolding converted
-  too-high e f = ap (λ (b : Bool). whereInRange b (hundredthsOf x)) (sym (both e f))
+  too-high e f = sym (refuse-now ReadingOutOfRange (gives (hundredthsOf x)) (both e f))
 
   pub too-low : le (ofInt binary32 lo) x ≡ false → refusedFor ReadingOutOfRange ≡ converted lo hi x
   unfolding converted
-  too-low e = ap (λ (b : Bool). whereInRange b (hundredthsOf x)) (sym (both e refl))
+  too-low e = sym (refuse-now ReadingOutOfRange (gives (hundredthsOf x)) (both e refl))
 
 -- ---- what the casts and the products ask
 pub in-float : (z : ℤ) → natAbs z < 65536 → T (inFloat binary32 z)

@@ -9,7 +9,9 @@ use lib.IntN.{ℤ, pos, negℤ, _*ℤ_}
 use lib.Signed.{_≤ℤ_, _<ℤ_}
 use lib.Ieee.{Float, fin, up, down, binary32, fits}
 use Rattle.refusal.specs.declared.Refusal.{Refusal}
-use Rattle.refusal.specs.Number.{numberOf}
+use Rattle.refusal.specs.declared.Reason.{Reason}
+use Rattle.refusal.specs.declared.Reason.the-variants.{Alone}
+use Rattle.refusal.specs.Number.{reasonOf}
 use Rattle.refusal.specs.Told.{Told, refused, gives}
 use Rattle.refusal.specs.Claims.{OneToOne}
 use Rattle.readings_rules.specs.declared.Reading.{Reading}
@@ -49,9 +51,9 @@ pub record RangeRule : Type 0 where
   pub channel : (c : ℕ) → (channelInRange c ≡ true) ↔ (c ≤ 1087)
   pub highest : channelHighest ≡ 1087
 
--- refusal 1, "a level or quality, as a float or in hundredths, is outside its range": given exactly then
+-- refusal 1, "a level or quality, as a float or in hundredths, is outside its range": given exactly then, and without a place
 abbrev pub RefusedOutside : {A : Type 0} → Type 0 → Told A → Type 0
-RefusedOutside Inside answer = (n : ℕ) → (answer ≡ refused n) ↔ ((n ≡ 1) × (¬ Inside))
+RefusedOutside Inside answer = (n : Reason) → (answer ≡ refused n) ↔ ((n ≡ Alone 1) × (¬ Inside))
 
 -- ---- from a float to hundredths
 
@@ -136,8 +138,8 @@ pub record BurstRule : Type 0 where
   pub nothing : burstOf burst.Missed ≡ gives missed
   pub both : (r : Reading) (l q : ℤ) → (burstOf (burst.Heard r) ≡ gives (heard l q))
       ↔ ((levelOf (r .level) ≡ gives l) × (qualityOf (r .quality) ≡ gives q))
-  pub either : (r : Reading) (n : ℕ) → (burstOf (burst.Heard r) ≡ refused n)
-      ↔ ((n ≡ 1) × ((levelOf (r .level) ≡ refused 1) ⊎ (qualityOf (r .quality) ≡ refused 1)))
+  pub either : (r : Reading) (n : Reason) → (burstOf (burst.Heard r) ≡ refused n)
+      ↔ ((n ≡ Alone 1) × ((levelOf (r .level) ≡ refused (Alone 1)) ⊎ (qualityOf (r .quality) ≡ refused (Alone 1))))
 
 -- what a burst gives in hundredths lies in the ranges
 abbrev pub BurstInRange : Type 0
@@ -145,15 +147,15 @@ BurstInRange = (b : Burst) (l q : ℤ) → burstOf b ≡ gives (heard l q) → L
 
 -- ---- answers
 
--- an answer tells its values, and a refusal its number
+-- an answer tells its values, and a refusal what is told of it: its number, and its place where it has one
 pub record AnswersTold : Type 0 where
   pub value : (h : ℤ) → toldHundredths (hundredths.Value h) ≡ gives h
   pub float : (x : Float) → toldShown (shown.Value x) ≡ gives x
   pub reading : (r : ReadingHundredths) → toldBurst (result.Heard r) ≡ gives (heard (r .level) (r .quality))
   pub nothing : toldBurst result.Missed ≡ gives missed
-  pub noValue : (why : Refusal) → toldHundredths (hundredths.Refused why) ≡ refused (numberOf why)
-  pub noFloat : (why : Refusal) → toldShown (shown.Refused why) ≡ refused (numberOf why)
-  pub noReading : (why : Refusal) → toldBurst (result.Refused why) ≡ refused (numberOf why)
+  pub noValue : (why : Refusal) → toldHundredths (hundredths.Refused why) ≡ refused (reasonOf why)
+  pub noFloat : (why : Refusal) → toldShown (shown.Refused why) ≡ refused (reasonOf why)
+  pub noReading : (why : Refusal) → toldBurst (result.Refused why) ≡ refused (reasonOf why)
 
 -- what is told of an answer fixes its case and values
 pub record AnswersDiffer : Type 0 where

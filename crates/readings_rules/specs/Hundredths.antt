@@ -5,7 +5,7 @@ use lib.IntN.{ℤ, pos, negℤ, _*ℤ_}
 use lib.Signed.{leZ}
 use lib.Ieee.{Float, nan, inf, fin, up, down}
 use Rattle.refusal.specs.declared.Refusal.the-variants.{ReadingOutOfRange}
-use Rattle.refusal.specs.Told.{Told, refusedFor, gives}
+use Rattle.refusal.specs.Told.{Told, gives, provided}
 use Rattle.readings_rules.specs.Ranges.{levelLow, levelHigh, qualityLow, qualityHigh}
 use Rattle.readings_rules.specs.Rounding.{nearestLower}
 
@@ -31,15 +31,10 @@ hundredthsOf nan = pos 0
 hundredthsOf (inf s) = pos 0
 hundredthsOf (fin s m e) = nearestLower (pos 100 *ℤ numerator s m e) (down e)
 
--- these values where the test of the range holds, else refusal 1
-abbrev pub whereInRange : {A : Type 0} → Bool → A → Told A
-whereInRange true a = gives a
-whereInRange false a = refusedFor ReadingOutOfRange
-
--- the range is tested on the exact float, before rounding
+-- the hundredths where the float lies in the range, else refusal 1; the range is tested on the exact float, before rounding
 unfoldable pub converted : ℤ → ℤ → Float → Told ℤ
 unfolding within hundredthsOf
-converted low high x = whereInRange (within low high x) (hundredthsOf x)
+converted low high x = provided (within low high x) ReadingOutOfRange (gives (hundredthsOf x))
 
 -- a level in hundredths
 abbrev pub levelOf : Float → Told ℤ

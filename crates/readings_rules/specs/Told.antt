@@ -1,4 +1,4 @@
--- Each answer of the readings in document 01's terms: the refusal number, or the values.
+-- Each answer of the readings in document 01's terms: what is told of a refusal, or the values.
 use lib.IntN.{ℤ}
 use lib.Ieee.{Float}
 use Rattle.refusal.specs.Told.{Told, refusedFor, gives}

@@ -1,2 +1,3 @@
 -- The laws of the refusals.
 pub mod OneToOne
+pub mod Provided

@@ -271,6 +271,19 @@ fn watched(from: Watch, n: [u16; LISTED], level: i32) -> Watch {
     w
 }
 
+// A new list of the first n[0] of the other numbers, on the watch that 100 serves and on an idle one.
+fn say_list_case(n: [u16; LISTED]) {
+    let channels = [n[1], n[2], n[3], n[4], n[5], n[6], n[7]];
+    let k = n[0] as usize;
+    if k <= channels.len() {
+        let list = &channels[0..k];
+        let w = watch_of(b"sound");
+        say_watch(w, watch::new_list(w, list));
+        let idle = watch::fresh();
+        say_watch(idle, watch::new_list(idle, list));
+    }
+}
+
 fn same_power(a: PowerRecord, b: PowerRecord) -> bool {
     (a.panlast == b.panlast)
         & (a.parsave == b.parsave)
@@ -319,6 +332,7 @@ fn say_answers(case: &[u8]) {
         b'm' => say(of_burst(Burst::Missed)),
         b's' => say_sweep_calls(swept(n, int_at(case, 2))),
         b'o' => say_outcomes_case(n),
+        b'l' => say_list_case(n),
         b'w' => say_watch_calls(watched(watch_of(word(case, 1)), n, int_at(case, 8))),
         b'p' => say_power_case(n),
         _ => {}

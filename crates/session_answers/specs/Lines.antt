@@ -3,6 +3,8 @@ use Prim.Native.Nat.{ℕ}
 use mathlib.Core.List.{List, _++_}
 use lib.IntN.{ℤ, natAbs}
 use lib.Ieee.{Float}
+use Rattle.refusal.specs.declared.Reason.{Reason}
+use Rattle.refusal.specs.declared.Reason.the-variants.{Alone, At}
 use Rattle.refusal.specs.Told.{Told, gives, refused}
 use Rattle.sweep_rules.specs.Next.{Next, channel, done}
 use Rattle.sweep_rules.specs.Counts.{Counts}
@@ -13,8 +15,10 @@ use Rattle.session_words.specs.Bytes.{bytesOf}
 use Rattle.session_texts.specs.Text.{bitsText}
 use Rattle.session_templates.specs.Filled.{line, filled, says}
 
-abbrev pub refusedText : ℕ → List ℕ
-refusedText n = says "refused A" n 0
+-- a refusal: its number, and the place where one is told
+abbrev pub refusedText : Reason → List ℕ
+refusedText (Alone n) = says "refused A" n 0
+refusedText (At n place) = says "refused A at B" n place
 
 -- the line of an answer, by the text of what an accepted call gives
 abbrev pub answerLine : {A : Type 0} → (A → List ℕ) → Told A → List ℕ

@@ -1,7 +1,7 @@
 // Each answer of the library as the line that a session file's answers are written as, with its newline.
 ghost use mathlib.Core.Path.{_≡_};
 ghost use Prim.Native.Nat.{_<_};
-ghost use Rattle.refusal.specs.Number.{numberOf};
+ghost use Rattle.refusal.specs.Number.{reasonOf};
 ghost use Rattle.refusal.specs.Told.{toldOutcome};
 ghost use Rattle.readings_rules.specs.Told.{toldHundredths, toldShown};
 ghost use Rattle.sweep_rules.specs.Told.{toldNext, toldNumbers};
@@ -16,6 +16,7 @@ use choice_rules::Choice;
 use readings_rules::Hundredths;
 use readings_rules::Shown;
 use refusal::Outcome;
+use refusal::Reason;
 use refusal::Refusal;
 use session_templates::ended;
 use session_texts::Text;
@@ -40,9 +41,17 @@ fn accepted() -> Text
 }
 
 fn refused(why: Refusal) -> Text
-    ensures { λ r. ⌜ said r ≡ line (refusedText (numberOf why)) ⌝ }
+    ensures { λ r. ⌜ said r ≡ line (refusedText (reasonOf why)) ⌝ }
 {
-    whole_line(b"refused A", refusal::number(why) as u64, 0, 0)
+    match refusal::told(why) {
+        Reason::Alone(number) => whole_line(b"refused A", number as u64, 0, 0),
+        Reason::At { number, place } => whole_line(
+            b"refused A at B",
+            number as u64,
+            place as u64,
+            0,
+        ),
+    }
 }
 
 fn float(x: f32) -> Text

@@ -7,7 +7,7 @@ use Rattle.readings_rules.specs.declared.Burst.{Burst}
 use Rattle.readings_rules.specs.declared.Burst.the-variants.{Missed}
 use Rattle.sweep_rules.specs.declared.Sweep.{Sweep}
 use Rattle.sweep_rules.specs.Record.{firstSwept, sweptChannels, freshSweep}
-use Rattle.sweep_rules.specs.Filing.{filing, leaves, answers}
+use Rattle.sweep_rules.specs.Filing.{filing, leaves}
 use Rattle.sweep_rules.specs.Next.{nextTold}
 use Rattle.sweep_rules.specs.Counts.{countsTold}
 use Rattle.session_texts.specs.Text.{said}
@@ -32,7 +32,7 @@ missedFrom (suc n) c s = missedFrom n (suc c) (leaves s (filing s c Missed))
 
 -- a result filed in the sweep
 unfoldable pub filed : ℕ → Burst → Sweep → SweepWritten
-filed c b s = record { sweep = leaves s (filing s c b); text = outcomeLine (answers (filing s c b)) }
+filed c b s = record { sweep = leaves s (filing s c b); text = outcomeLine (refusal.acceptance (filing s c b)) }
 
 -- the next channel and the numbers of channels leave the sweep as it is
 unfoldable pub nextAsked : Sweep → SweepWritten

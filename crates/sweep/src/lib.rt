@@ -2,10 +2,10 @@
 ghost use mathlib.Core.Path.{_≡_};
 ghost use mathlib.Core.Bool.{true, false};
 ghost use Prim.Native.Nat.{_+_, _≤_, _<_};
-ghost use Rattle.refusal.specs.Told.{gives, toldOutcome, accepted, refusedFor};
+ghost use Rattle.refusal.specs.Told.{gives, toldOutcome, accepted, acceptance, refusedFor};
 ghost use Rattle.sweep_rules.specs.Map.{channels, wordBits, isSet, withBit, setBits};
 ghost use Rattle.sweep_rules.specs.Record.{firstSwept, sweptChannels, swept, visited, heard, freshSweep, wellFormed};
-ghost use Rattle.sweep_rules.specs.Filing.{withMissed, withHeard, filing, leaves, answers, checking};
+ghost use Rattle.sweep_rules.specs.Filing.{withMissed, withHeard, filing, leaves, checking};
 ghost use Rattle.sweep_rules.specs.Next.{lowestNot, nextTold};
 ghost use Rattle.sweep_rules.specs.Counts.{countsTold};
 ghost use Rattle.sweep_rules.specs.Told.{toldNext, toldNumbers};
@@ -248,7 +248,7 @@ pub fn check(sweep: Sweep) -> SweepOutcome
 // Files a burst's result for a channel not yet visited. Refusals 9, 2, 3, 1, in this order; both floats of a heard burst are tested.
 pub fn file(sweep: Sweep, channel: u16, burst: Burst) -> SweepOutcome
     ensures sweep { λ r. ⌜ r .sweep ≡ leaves sweep (filing sweep channel burst) ⌝ }
-    ensures answer { λ r. ⌜ toldOutcome (r .answer) ≡ answers (filing sweep channel burst) ⌝ }
+    ensures answer { λ r. ⌜ toldOutcome (r .answer) ≡ acceptance (filing sweep channel burst) ⌝ }
 {
     let c = channel as usize;
     if !well_formed(&sweep.levels, &sweep.visited, &sweep.heard) {

@@ -1,19 +1,19 @@
 -- What the definitions of filing come to in each case.
 use Prim.Native.Nat.{ℕ}
 use mathlib.Core.Path.{_≡_, sym, ap, _∙_}
-use mathlib.Core.Bool.{Bool, true, false}
+use mathlib.Core.Bool.{true, false}
 use mathlib.Core.List.{List}
 use lib.ListN.{set}
 use lib.IntN.{ℤ}
-use Rattle.refusal.specs.declared.Refusal.{Refusal}
 use Rattle.refusal.specs.declared.Refusal.the-variants.{ChannelOutOfRange, ChannelVisited, RecordNotWellFormed}
-use Rattle.refusal.specs.Told.{Told, refused, gives, refusedFor, accepted, toldOutcome}
+use Rattle.refusal.specs.declared.Reason.{Reason}
+use Rattle.refusal.specs.Told.{Told, refused, gives, refusedFor, accepted, acceptance, toldOutcome}
 use Rattle.readings_rules.specs.declared.Burst.{Burst}
 use Rattle.readings_rules.specs.Burst as readings
 use Rattle.readings_rules.specs.Burst.{BurstResult, burstOf}
 use Rattle.sweep_rules.specs.Map.{withBit}
 use Rattle.sweep_rules.specs.Record.{swept, visited, wellFormed}
-use Rattle.sweep_rules.specs.Filing.{provided, withMissed, withHeard, withBurst, filing, leaves, answers}
+use Rattle.sweep_rules.specs.Filing.{withMissed, withHeard, withBurst, filing, leaves}
 use Rattle.sweep_rules.specs.declared.Sweep.{Sweep}
 use Rattle.sweep_rules.specs.declared.SweepOutcome.{SweepOutcome}
 
@@ -29,12 +29,6 @@ unfolding withHeard
 heard-is s c level y v h e p q = rw (e, p, q)
 
 -- ---- refusals, in their order
-
-pub granted : {A : Type 0} {b : Bool} (r : Refusal) (a : Told A) → b ≡ true → provided b r a ≡ a
-granted r a e = rw e
-
-pub denied : {A : Type 0} {b : Bool} (r : Refusal) (a : Told A) → b ≡ false → provided b r a ≡ refusedFor r
-denied r a e = rw e
 
 module _ (s : Sweep) (c : ℕ) (b : Burst) where
   pub file-9 : wellFormed s ≡ false → filing s c b ≡ refusedFor RecordNotWellFormed
@@ -62,15 +56,17 @@ pub burst-heard : (s : Sweep) (c : ℕ) (t : Told BurstResult) (level quality : 
 unfolding withBurst
 burst-heard s c t level quality e = rw e
 
-pub burst-refused : (s : Sweep) (c : ℕ) (t : Told BurstResult) (n : ℕ) → t ≡ refused n → withBurst s c t ≡ refused n
+pub burst-refused : (s : Sweep) (c : ℕ) (t : Told BurstResult) (n : Reason) → t ≡ refused n → withBurst s c t ≡ refused n
 unfolding withBurst
 burst-refused s c t n e = rw e
 
 -- ---- what a call hands back
 
 module _ (s : Sweep) (t : Told Sweep) (r : SweepOutcome) where
-  pub hands-refused : (n : ℕ) → t ≡ refused n → (r .sweep ≡ s) × (toldOutcome (r .answer) ≡ refused n) → (r .sweep ≡ leaves s t) × (toldOutcome (r .answer) ≡ answers t)
-  hands-refused n e h = (h .0 ∙ sym (ap (leaves s) e), h .1 ∙ sym (ap answers e))
+  pub hands-refused : (n : Reason) → t ≡ refused n → (r .sweep ≡ s) × (toldOutcome (r .answer) ≡ refused n)
+      → (r .sweep ≡ leaves s t) × (toldOutcome (r .answer) ≡ acceptance t)
+  hands-refused n e h = (h .0 ∙ sym (ap (leaves s) e), h .1 ∙ sym (ap acceptance e))
 
-  pub hands-accepted : (u : Sweep) → t ≡ gives u → (r .sweep ≡ u) × (toldOutcome (r .answer) ≡ accepted) → (r .sweep ≡ leaves s t) × (toldOutcome (r .answer) ≡ answers t)
-  hands-accepted u e h = (h .0 ∙ sym (ap (leaves s) e), h .1 ∙ sym (ap answers e))
+  pub hands-accepted : (u : Sweep) → t ≡ gives u → (r .sweep ≡ u) × (toldOutcome (r .answer) ≡ accepted)
+      → (r .sweep ≡ leaves s t) × (toldOutcome (r .answer) ≡ acceptance t)
+  hands-accepted u e h = (h .0 ∙ sym (ap (leaves s) e), h .1 ∙ sym (ap acceptance e))

@@ -11,7 +11,8 @@ use lib.Seq.{getD-set-same, getD-set-other}
 use lib.IntN.{ℤ, pos}
 use lib.Dec.{eqb, leb}
 use borrow.Author.Tests.{eqb-true, eq-eqb, leb-true, leb-false}
-use Rattle.refusal.specs.Told.{Told, refused, gives, accepted}
+use Rattle.refusal.specs.declared.Reason.the-variants.{Alone}
+use Rattle.refusal.specs.Told.{Told, refused, gives, accepted, acceptance}
 use Rattle.refusal.proofs.OneToOne.{gives-refused}
 use Rattle.readings_rules.specs.declared.Burst.{Burst}
 use Rattle.readings_rules.specs.declared.Burst.the-variants.{Heard, Missed}
@@ -20,7 +21,7 @@ use Rattle.readings_rules.specs.Burst.{burstOf, bothOf}
 use Rattle.readings_rules.specs.Hundredths.{levelOf, qualityOf}
 use Rattle.sweep_rules.specs.Map.{isSet, withBit}
 use Rattle.sweep_rules.specs.Record.{visited, heard, wellFormed}
-use Rattle.sweep_rules.specs.Filing.{withMissed, withHeard, withBurst, filing, leaves, answers}
+use Rattle.sweep_rules.specs.Filing.{withMissed, withHeard, withBurst, filing, leaves}
 use Rattle.sweep_rules.specs.Claims.{Typed, WellFormed, Accepts, unformed, channelBelow, channelAbove, visitedBefore, Filed, FilingRule}
 use Rattle.sweep_rules.specs.declared.Sweep.{Sweep}
 use Rattle.sweep_rules.proofs.Tests.{which}
@@ -102,20 +103,23 @@ module _ (s : Sweep) (c : ℕ) (b : Burst) where
       w : WellFormed s
       w = ⊎-elim
           (λ (e : wellFormed s ≡ true). wellFormedRule s .0 e)
-          (λ (e : wellFormed s ≡ false). absurd (A 9 (unformed (says-no (wellFormed s) (wellFormedRule s .1) e))))
+          (λ (e : wellFormed s ≡ false). absurd (A (Alone 9) (unformed (says-no (wellFormed s) (wellFormedRule s .1) e))))
           (which (wellFormed s))
 
       least : 2 ≤ c
-      least = ⊎-elim (λ (e : leb 2 c ≡ true). leb-true 2 c e) (λ (e : leb 2 c ≡ false). absurd (A 2 (channelBelow w (leb-false 2 c e)))) (which (leb 2 c))
+      least = ⊎-elim
+          (λ (e : leb 2 c ≡ true). leb-true 2 c e)
+          (λ (e : leb 2 c ≡ false). absurd (A (Alone 2) (channelBelow w (leb-false 2 c e))))
+          (which (leb 2 c))
 
       most : c ≤ 1086
       most = ⊎-elim
           (λ (e : leb c 1086 ≡ true). leb-true c 1086 e)
-          (λ (e : leb c 1086 ≡ false). absurd (A 2 (channelAbove w (leb-false c 1086 e))))
+          (λ (e : leb c 1086 ≡ false). absurd (A (Alone 2) (channelAbove w (leb-false c 1086 e))))
           (which (leb c 1086))
 
       clear : visited s c ≡ false
-      clear = ⊎-elim (λ (v : visited s c ≡ true). absurd (A 3 (visitedBefore w least most v))) (λ (v : visited s c ≡ false). v) (which (visited s c))
+      clear = ⊎-elim (λ (v : visited s c ≡ true). absurd (A (Alone 3) (visitedBefore w least most v))) (λ (v : visited s c ≡ false). v) (which (visited s c))
 
   -- by the burst and its two floats
   module _ (typed : Typed s) (P : Passed s c) where
@@ -133,7 +137,7 @@ module _ (s : Sweep) (c : ℕ) (b : Burst) where
     by-burst Missed is t e = let same : withMissed s c ≡ t = cc in subst (Filed s c b) same (missed-filed s c b typed low (P .formed) (P .clear) is)
 
   -- an accepted filing is told the record
-  taken : Accepts s c b → (a : Told Sweep) → filing s c b ≡ a → (answers a ≡ accepted) × (Typed s → Filed s c b (leaves s a))
+  taken : Accepts s c b → (a : Told Sweep) → filing s c b ≡ a → (acceptance a ≡ accepted) × (Typed s → Filed s c b (leaves s a))
   taken A (refused n) e = absurd (A n (to-row s c b n e))
   taken A (gives t) e =
       let P = passed A in
@@ -141,7 +145,7 @@ module _ (s : Sweep) (c : ℕ) (b : Burst) where
 
 pub filingRule : FilingRule
 filingRule s c b = record {
-  refuses = λ n row. let e = from-row s c b row in (ap answers e, ap (leaves s) e);
+  refuses = λ n row. let e = from-row s c b row in (ap acceptance e, ap (leaves s) e);
   accepts = λ A. taken s c b A (filing s c b) refl .0;
   files = λ A. taken s c b A (filing s c b) refl .1;
 }

@@ -1,23 +1,21 @@
 -- The calls that only read a record: refused with 9 exactly where it is not well formed, and answered by their definition exactly where it is.
-use Prim.Native.Nat.{ℕ}
 use mathlib.Core.Path.{_≡_, refl, sym, ap, _∙_}
 use mathlib.Core.Bool.{Bool, true, false}
 use mathlib.Core.Logic.{_↔_, ⊎-elim}
 use Rattle.refusal.specs.declared.Refusal.the-variants.{RecordNotWellFormed}
-use Rattle.refusal.specs.Told.{Told, refused, gives, accepted}
+use Rattle.refusal.specs.declared.Reason.{Reason}
+use Rattle.refusal.specs.declared.Reason.the-variants.{Alone}
+use Rattle.refusal.specs.Told.{Told, refused, gives, accepted, provided}
 use Rattle.refusal.proofs.OneToOne.{gives-refused}
+use Rattle.refusal.proofs.Provided.{same-reason, refuse-now, refuse-later}
 use Rattle.sweep_rules.specs.Record.{wellFormed}
-use Rattle.sweep_rules.specs.Filing.{provided, checking}
+use Rattle.sweep_rules.specs.Filing.{checking}
 use Rattle.sweep_rules.specs.Next.{nextOf, nextTold}
 use Rattle.sweep_rules.specs.Counts.{Counts, countsOf, countsTold}
 use Rattle.sweep_rules.specs.Claims.{WellFormed, AnswerRule}
 use Rattle.sweep_rules.specs.declared.Sweep.{Sweep}
 use Rattle.sweep_rules.proofs.Tests.{which, clash}
 use Rattle.sweep_rules.proofs.Formed.{wellFormedRule}
-use Rattle.sweep_rules.proofs.Filed.{granted, denied}
-
-pub number : {A : Type 0} {a b : ℕ} {t : Told A} → t ≡ refused a → t ≡ refused b → a ≡ b
-number {A} {a} {b} p q = let e : _≡_ {A = Told A} (refused a) (refused b) = sym p ∙ q in cc
 
 -- a test that fails where its words do not hold, and the other way round
 module _ {P : Type 0} (t : Bool) where
@@ -29,16 +27,16 @@ module _ {P : Type 0} (t : Bool) where
 
 module _ {A : Type 0} (s : Sweep) (a : A) (t : Told A) (is : t ≡ provided (wellFormed s) RecordNotWellFormed (gives a)) where
   read : wellFormed s ≡ true → t ≡ gives a
-  read w = is ∙ granted RecordNotWellFormed (gives a) w
+  read w = is ∙ refuse-later RecordNotWellFormed w refl
 
-  unread : wellFormed s ≡ false → t ≡ refused 9
-  unread w = is ∙ denied RecordNotWellFormed (gives a) w
+  unread : wellFormed s ≡ false → t ≡ refused (Alone 9)
+  unread w = is ∙ refuse-now RecordNotWellFormed (gives a) w
 
-  pub only-9 : (n : ℕ) → (t ≡ refused n) ↔ ((n ≡ 9) × (¬ (WellFormed s)))
+  pub only-9 : (n : Reason) → (t ≡ refused n) ↔ ((n ≡ Alone 9) × (¬ (WellFormed s)))
   only-9 n = (
     λ e. ⊎-elim
         (λ (w : wellFormed s ≡ true). absurd (gives-refused (sym (read w) ∙ e)))
-        (λ (w : wellFormed s ≡ false). (number e (unread w), says-no (wellFormed s) (wellFormedRule s .1) w))
+        (λ (w : wellFormed s ≡ false). (same-reason e (unread w), says-no (wellFormed s) (wellFormedRule s .1) w))
         (which (wellFormed s)),
     λ h. unread (fails (wellFormed s) (wellFormedRule s .0) (h .1)) ∙ ap refused (sym (h .0)),
   )

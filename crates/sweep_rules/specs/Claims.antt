@@ -10,8 +10,10 @@ use lib.IntN.{pos, negℤ}
 use lib.Count.{ones}
 use lib.Dec.{eqb}
 use Rattle.refusal.specs.declared.Refusal.{Refusal}
-use Rattle.refusal.specs.Number.{numberOf}
-use Rattle.refusal.specs.Told.{Told, refused, gives, accepted}
+use Rattle.refusal.specs.declared.Reason.{Reason}
+use Rattle.refusal.specs.declared.Reason.the-variants.{Alone}
+use Rattle.refusal.specs.Number.{reasonOf}
+use Rattle.refusal.specs.Told.{Told, refused, gives, accepted, acceptance}
 use Rattle.refusal.specs.Claims.{OneToOne}
 use Rattle.readings_rules.specs.declared.Burst.{Burst}
 use Rattle.readings_rules.specs.declared.Burst.the-variants.{Heard, Missed}
@@ -20,7 +22,7 @@ use Rattle.readings_rules.specs.Claims.{LevelInRange, Within}
 use Rattle.readings_rules.specs.Hundredths.{levelOf}
 use Rattle.sweep_rules.specs.Map.{isSet, withBit, setBits}
 use Rattle.sweep_rules.specs.Record.{visited, heard, levelAt, freshSweep, finished, wellFormed}
-use Rattle.sweep_rules.specs.Filing.{filing, leaves, answers, checking}
+use Rattle.sweep_rules.specs.Filing.{filing, leaves, checking}
 use Rattle.sweep_rules.specs.Next.{channel, done, nextTold}
 use Rattle.sweep_rules.specs.Counts.{Counts, countsTold}
 use Rattle.sweep_rules.specs.Told.{toldNext, toldNumbers}
@@ -82,31 +84,32 @@ WellFormedRule = (s : Sweep) → (wellFormed s ≡ true) ↔ WellFormed s
 
 -- ---- the refusals in document 01's words
 
--- the table for a filing: it is refused with this number. "Several at once: 9, .. 2, .. 3, .. 1.": a later number only where no earlier one is given
-pub data Refuses (s : Sweep) (c : ℕ) (b : Burst) : ℕ → Type 0 where
+-- the table for a filing: it is refused with this number, and no place is told. "Several at once: 9, .. 2, .. 3, .. 1.": a later number only
+-- where no earlier one is given
+pub data Refuses (s : Sweep) (c : ℕ) (b : Burst) : Reason → Type 0 where
   -- 9: "a record not well formed"
-  unformed : ¬ (WellFormed s) → Refuses s c b 9
+  unformed : ¬ (WellFormed s) → Refuses s c b (Alone 9)
   -- 2: "a swept channel outside 2 to 1,086"
-  channelBelow : WellFormed s → c < 2 → Refuses s c b 2
-  channelAbove : WellFormed s → 1086 < c → Refuses s c b 2
+  channelBelow : WellFormed s → c < 2 → Refuses s c b (Alone 2)
+  channelAbove : WellFormed s → 1086 < c → Refuses s c b (Alone 2)
   -- 3: "a channel already visited in this sweep"
-  visitedBefore : WellFormed s → 2 ≤ c → c ≤ 1086 → visited s c ≡ true → Refuses s c b 3
+  visitedBefore : WellFormed s → 2 ≤ c → c ≤ 1086 → visited s c ≡ true → Refuses s c b (Alone 3)
   -- 1: "a level or quality, as a float .., is outside its range"; "Both floats of a heard burst are tested in a sweep"
   levelOutside : (r : Reading) → WellFormed s → 2 ≤ c → c ≤ 1086 → visited s c ≡ false → b ≡ Heard r
-      → ¬ (Within (negℤ (pos 150)) (pos 0) (r .level)) → Refuses s c b 1
+      → ¬ (Within (negℤ (pos 150)) (pos 0) (r .level)) → Refuses s c b (Alone 1)
   qualityOutside : (r : Reading) → WellFormed s → 2 ≤ c → c ≤ 1086 → visited s c ≡ false → b ≡ Heard r
-      → ¬ (Within (negℤ (pos 30)) (pos 40) (r .quality)) → Refuses s c b 1
+      → ¬ (Within (negℤ (pos 30)) (pos 40) (r .quality)) → Refuses s c b (Alone 1)
 
 -- the table has no number for the filing
 abbrev pub Accepts : Sweep → ℕ → Burst → Type 0
-Accepts s c b = (n : ℕ) → ¬ (Refuses s c b n)
+Accepts s c b = (n : Reason) → ¬ (Refuses s c b n)
 
 -- each call is refused with a number exactly when the table says so; the calls that only read a record, with 9
 pub record RefusalRule : Type 0 where
-  pub files : (s : Sweep) (c : ℕ) (b : Burst) (n : ℕ) → (answers (filing s c b) ≡ refused n) ↔ Refuses s c b n
-  pub next : (s : Sweep) (n : ℕ) → (nextTold s ≡ refused n) ↔ ((n ≡ 9) × (¬ (WellFormed s)))
-  pub numbers : (s : Sweep) (n : ℕ) → (countsTold s ≡ refused n) ↔ ((n ≡ 9) × (¬ (WellFormed s)))
-  pub tests : (s : Sweep) (n : ℕ) → (checking s ≡ refused n) ↔ ((n ≡ 9) × (¬ (WellFormed s)))
+  pub files : (s : Sweep) (c : ℕ) (b : Burst) (n : Reason) → (acceptance (filing s c b) ≡ refused n) ↔ Refuses s c b n
+  pub next : (s : Sweep) (n : Reason) → (nextTold s ≡ refused n) ↔ ((n ≡ Alone 9) × (¬ (WellFormed s)))
+  pub numbers : (s : Sweep) (n : Reason) → (countsTold s ≡ refused n) ↔ ((n ≡ Alone 9) × (¬ (WellFormed s)))
+  pub tests : (s : Sweep) (n : Reason) → (checking s ≡ refused n) ↔ ((n ≡ Alone 9) × (¬ (WellFormed s)))
 
 -- ---- filing: "marks it visited. If heard, it marks it heard and stores the level; if missed, the level stays 0."
 
@@ -128,9 +131,9 @@ pub record Filed (s : Sweep) (c : ℕ) (b : Burst) (t : Sweep) : Type 0 where
 -- what filing b for channel c answers, and the record that it hands back
 pub record FilesRule (s : Sweep) (c : ℕ) (b : Burst) : Type 0 where
   -- "A refusal returns its number and the record it was given."
-  pub refuses : (n : ℕ) → Refuses s c b n → (answers (filing s c b) ≡ refused n) × (leaves s (filing s c b) ≡ s)
+  pub refuses : (n : Reason) → Refuses s c b n → (acceptance (filing s c b) ≡ refused n) × (leaves s (filing s c b) ≡ s)
   -- where the table has no number
-  pub accepts : Accepts s c b → answers (filing s c b) ≡ accepted
+  pub accepts : Accepts s c b → acceptance (filing s c b) ≡ accepted
   pub files : Accepts s c b → Typed s → Filed s c b (leaves s (filing s c b))
 
 abbrev pub FilingRule : Type 0
@@ -217,7 +220,7 @@ pub record SequenceRule : Type 0 where
   pub noneAccepted : (s : Sweep) → acceptedOf s [] ≡ []
   pub oneAccepted : (s : Sweep) (fs : List Filing) (f : Filing) → Accepts (after s fs) (f .channel) (f .burst)
       → acceptedOf s (fs ++ (f ∷ [])) ≡ acceptedOf s fs ++ (f ∷ [])
-  pub oneRefused : (s : Sweep) (fs : List Filing) (f : Filing) (n : ℕ) → Refuses (after s fs) (f .channel) (f .burst) n
+  pub oneRefused : (s : Sweep) (fs : List Filing) (f : Filing) (n : Reason) → Refuses (after s fs) (f .channel) (f .burst) n
       → acceptedOf s (fs ++ (f ∷ [])) ≡ acceptedOf s fs
   -- and a heard one exactly where its burst is
   pub noneHeard : heardOf [] ≡ []
@@ -251,10 +254,10 @@ pub record AnswersDiffer : Type 0 where
   pub next : OneToOne toldNext
   pub numbers : OneToOne toldNumbers
 
--- and each case is told as what it says
+-- and each case is told as what it says, a refusal as its number and, where it has one, its place
 pub record AnswersTold : Type 0 where
   pub nextChannel : (c : ℕ) → toldNext (next.Channel c) ≡ gives (channel c)
   pub nextDone : toldNext next.Done ≡ gives done
-  pub nextRefused : (r : Refusal) → toldNext (next.Refused r) ≡ refused (numberOf r)
+  pub nextRefused : (r : Refusal) → toldNext (next.Refused r) ≡ refused (reasonOf r)
   pub numbersOf : (v h : ℕ) → toldNumbers (numbers.Of v h) ≡ gives (record { visited = v; heard = h })
-  pub numbersRefused : (r : Refusal) → toldNumbers (numbers.Refused r) ≡ refused (numberOf r)
+  pub numbersRefused : (r : Refusal) → toldNumbers (numbers.Refused r) ≡ refused (reasonOf r)

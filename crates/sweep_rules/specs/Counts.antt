@@ -1,10 +1,9 @@
 -- Document 01, section The band sweep: "The numbers visited and heard are the counts of set bits in the maps."
 use Prim.Native.Nat.{ℕ}
 use Rattle.refusal.specs.declared.Refusal.the-variants.{RecordNotWellFormed}
-use Rattle.refusal.specs.Told.{Told, gives}
+use Rattle.refusal.specs.Told.{Told, gives, provided}
 use Rattle.sweep_rules.specs.Map.{setBits}
 use Rattle.sweep_rules.specs.Record.{wellFormed}
-use Rattle.sweep_rules.specs.Filing.{provided}
 use Rattle.sweep_rules.specs.declared.Sweep.{Sweep}
 
 -- the numbers visited and heard

@@ -1,22 +1,16 @@
 -- Document 01, section The band sweep: filing a result for a channel, and its refusals 9, 2, 3, 1 in this order.
 use Prim.Native.Nat.{ℕ}
-use mathlib.Core.Bool.{Bool, true, false, not}
+use mathlib.Core.Bool.{not}
 use lib.ListN.{set}
 use lib.IntN.{ℤ}
-use Rattle.refusal.specs.declared.Refusal.{Refusal}
 use Rattle.refusal.specs.declared.Refusal.the-variants.{ChannelOutOfRange, ChannelVisited, RecordNotWellFormed}
-use Rattle.refusal.specs.Told.{Told, refused, gives, refusedFor, accepted}
+use Rattle.refusal.specs.Told.{Told, refused, gives, accepted, provided}
 use Rattle.readings_rules.specs.declared.Burst.{Burst}
 use Rattle.readings_rules.specs.Burst as readings
 use Rattle.readings_rules.specs.Burst.{BurstResult, burstOf}
 use Rattle.sweep_rules.specs.Map.{withBit}
 use Rattle.sweep_rules.specs.Record.{swept, visited, wellFormed}
 use Rattle.sweep_rules.specs.declared.Sweep.{Sweep}
-
--- an answer where a test holds, else this refusal
-abbrev pub provided : {A : Type 0} → Bool → Refusal → Told A → Told A
-provided true r a = a
-provided false r a = refusedFor r
 
 -- missed: the channel is marked visited, and its level stays 0
 unfoldable pub withMissed : Sweep → ℕ → Sweep
@@ -32,7 +26,7 @@ withBurst s c (gives readings.missed) = gives (withMissed s c)
 withBurst s c (gives (readings.heard level quality)) = gives (withHeard s c level)
 withBurst s c (refused n) = refused n
 
--- the record that a filing leaves, or its refusal
+-- the record that a filing leaves, or its refusal; whether it is accepted is the `acceptance` of this
 unfoldable pub filing : Sweep → ℕ → Burst → Told Sweep
 filing s c b =
     provided (wellFormed s) RecordNotWellFormed
@@ -44,11 +38,6 @@ filing s c b =
 abbrev pub leaves : Sweep → Told Sweep → Sweep
 leaves s (gives t) = t
 leaves s (refused n) = s
-
--- the answer of a call that gives no value
-abbrev pub answers : Told Sweep → Told Unit
-answers (gives t) = accepted
-answers (refused n) = refused n
 
 -- the public test: accepted, or refusal 9
 unfoldable pub checking : Sweep → Told Unit

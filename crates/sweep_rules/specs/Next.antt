@@ -2,9 +2,8 @@
 use Prim.Native.Nat.{ℕ, zero, suc}
 use mathlib.Core.Bool.{Bool, cond}
 use Rattle.refusal.specs.declared.Refusal.the-variants.{RecordNotWellFormed}
-use Rattle.refusal.specs.Told.{Told, gives}
+use Rattle.refusal.specs.Told.{Told, gives, provided}
 use Rattle.sweep_rules.specs.Record.{firstSwept, sweptChannels, visited, wellFormed}
-use Rattle.sweep_rules.specs.Filing.{provided}
 use Rattle.sweep_rules.specs.declared.Sweep.{Sweep}
 
 -- a channel, or done

@@ -1,4 +1,4 @@
--- Each answer of the sweep in document 01's terms: the refusal number, or the values.
+-- Each answer of the sweep in document 01's terms: what is told of a refusal, or the values.
 use Rattle.refusal.specs.Told.{Told, refusedFor, gives}
 use Rattle.sweep_rules.specs.declared.NextChannel.{NextChannel}
 use Rattle.sweep_rules.specs.declared.NextChannel.the-variants as next

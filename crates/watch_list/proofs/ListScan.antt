@@ -1,44 +1,32 @@
 -- The tests of a list of channels as the code makes them, from place to place.
-use Prim.Native.Nat.{ℕ, suc, _+_, _≤_, _<_}
-use mathlib.Core.Path.{_≡_, refl, ap, ap₂, _∙_}
-use mathlib.Core.Bool.{Bool, true, false, not, _&&_, _||_, and-false, or-true}
-use mathlib.Core.List.{List, [], _∷_, _++_}
+use Prim.Native.Nat.{ℕ, zero, suc, _+_, _≤_, _<_}
+use mathlib.Core.Path.{_≡_, refl, sym, ap, ap₂, _∙_}
+use mathlib.Core.Bool.{Bool, true, false, not, _&&_, _||_, or-true}
+use mathlib.Core.List.{List, _∷_, [], _++_}
+use mathlib.Core.Option.{Option}
 use native.Mathlib.Omega.{arith}
 use native.Mathlib.Numerals.{add-one}
 use lib.Dec.{eqb}
 use lib.ListN.{length, drop, take, getD, length-take}
-use lib.Seq.{take-suc, split-at, getD-take}
+use lib.Seq.{take-suc, drop-cons, split-at, getD-take, length-take-le}
 use borrow.Author.Tests.{eq-eqb, ne-eqb}
-use Rattle.watch_rules.specs.Lists.{mem, distinct, every}
-use Rattle.watch_rules.proofs.Laws.{every-snoc, eqb-sym}
-use Rattle.watch_record.proofs.Scan.{mem-append, distinct-snoc, distinct-again}
+use Rattle.refusal.specs.declared.Refusal.{Refusal}
+use Rattle.refusal.specs.declared.Refusal.the-variants.{ListedOutOfRange, ListedAgain, ListedServing}
+use Rattle.refusal.specs.Told.{Told, refusedFor}
+use Rattle.refusal.proofs.Provided.{refuse-now, refuse-later}
+use Rattle.readings_rules.specs.Channels.{channelInRange}
+use Rattle.watch_rules.specs.Lists.{mem, is}
+use Rattle.watch_rules.specs.Rules.{unlessFaultyAt, unlessFaultyFrom}
+use Rattle.watch_rules.proofs.Laws.{eqb-sym}
+use Rattle.watch_record.proofs.Scan.{mem-append}
+use Rattle.watch_list.specs.Code.{servingOf}
 
 module _ (l : List ℕ) (i : ℕ) (inside : i < length l) where
   pub more : take (i + 1) l ≡ take i l ++ getD l i 0 ∷ []
   more = ap (λ (k : ℕ). take k l) (add-one i) ∙ take-suc l i 0 inside
 
-  pub round : l ≡ take i l ++ getD l i 0 ∷ drop (suc i) l
-  round = split-at l i 0 inside
-
   pub mem-more : (c : ℕ) → mem c (take i l) ≡ false → (getD l i 0 ≡ c → ⊥) → mem c (take (i + 1) l) ≡ false
   mem-more c e h = ap (mem c) more ∙ mem-append c (take i l) (getD l i 0 ∷ []) ∙ rw (e, ne-eqb (getD l i 0) c h)
-
-  pub sound-more : (f : ℕ → Bool) → every f (take i l) ≡ true → distinct (take i l) ≡ true → f (getD l i 0) ≡ true → mem (getD l i 0) (take i l) ≡ false
-      → (every f (take (i + 1) l) ≡ true) × (distinct (take (i + 1) l) ≡ true)
-  sound-more f e u h m = (
-    ap (every f) more ∙ every-snoc f (take i l) (getD l i 0) e h,
-    ap distinct more ∙ distinct-snoc (take i l) (getD l i 0) u m,
-  )
-
-  pub every-fails : (f : ℕ → Bool) → f (getD l i 0) ≡ false → every f l ≡ false
-  every-fails f h = ap (every f) round ∙ go (take i l)
-    where
-      go : (m : List ℕ) → every f (m ++ getD l i 0 ∷ drop (suc i) l) ≡ false
-      go [] = ap (λ (b : Bool). b && every f (drop (suc i) l)) h
-      go (x ∷ m) = ap (λ (b : Bool). f x && b) (go m) ∙ and-false (f x)
-
-  pub distinct-fails : mem (getD l i 0) (take i l) ≡ true → distinct l ≡ false
-  distinct-fails m = ap distinct round ∙ distinct-again (take i l) (getD l i 0) (drop (suc i) l) m
 
 mem-middle : (c : ℕ) (l m : List ℕ) → mem c (l ++ c ∷ m) ≡ true
 mem-middle c l m = mem-append c l (c ∷ m) ∙ ap (λ (b : Bool). mem c l || (b || mem c m)) (eq-eqb c c refl) ∙ or-true (mem c l)
@@ -51,15 +39,42 @@ mem-at l i n c h g e =
     ∙ ap (λ (x : ℕ). mem c (take i (take n l) ++ x ∷ drop (suc i) (take n l))) q
     ∙ mem-middle c (take i (take n l)) (drop (suc i) (take n l))
 
-pub none-is-mem : (s : ℕ) (l : List ℕ) → every (λ c. not (eqb s c)) l ≡ not (mem s l)
-none-is-mem s [] = refl
-none-is-mem s (c ∷ l) =
-    ap₂ (λ (a b : Bool). not a && b) (eqb-sym s c) (none-is-mem s l) ∙ go (eqb c s) (mem s l)
-  where
-    go : (a b : Bool) → (not a && not b) ≡ not (a || b)
-    go true b = refl
-    go false b = refl
+-- ---- from place to place
 
-pub every-true : (l : List ℕ) → every (λ c. true) l ≡ true
-every-true [] = refl
-every-true (c ∷ l) = every-true l
+-- the code's test of the serving channel: nobody serves where nothing is watched
+pub serving-test : (n s c : ℕ) → (not (eqb n 0) && eqb c s) ≡ is (servingOf n s) c
+serving-test zero s c = refl
+serving-test (suc n) s c =
+    let h : suc n ≡ 0 → ⊥ = λ e. omega arith in
+    ap (λ (b : Bool). not b && eqb c s) (ne-eqb (suc n) 0 h) ∙ eqb-sym c s
+
+module _ (s : Option ℕ) (l : List ℕ) (i : ℕ) (inside : i < length l) (a : Told Unit) where
+  -- what is left of the walk from the place i on
+  abbrev left : Told Unit
+  left = unlessFaultyFrom s (take i l) (drop i l) a
+
+  -- there stands the channel of this place, behind i others
+  at-place : left ≡ unlessFaultyAt s (take i l) (getD l i 0) (unlessFaultyFrom s (take (i + 1) l) (drop (i + 1) l) a)
+  at-place =
+      ap (λ (m : List ℕ). unlessFaultyFrom s (take i l) m a) (drop-cons l i 0 inside)
+      ∙ ap₂ (λ (e m : List ℕ). unlessFaultyAt s (take i l) (getD l i 0) (unlessFaultyFrom s e m a))
+      (sym (more l i inside)) (ap (λ (k : ℕ). drop k l) (sym (add-one i)))
+
+  -- it is told with its fault
+  told-at : (why : ℕ → Refusal) → left ≡ refusedFor (why (length (take i l))) → refusedFor (why i) ≡ left
+  told-at why e = ap (λ (k : ℕ). refusedFor (why k)) (sym (length-take-le i l (omega arith))) ∙ sym e
+
+  pub told-above : channelInRange (getD l i 0) ≡ false → refusedFor (ListedOutOfRange i) ≡ left
+  told-above e = told-at ListedOutOfRange (at-place ∙ refuse-now _ _ e)
+
+  module _ (ranged : channelInRange (getD l i 0) ≡ true) where
+    pub told-serving : is s (getD l i 0) ≡ true → refusedFor (ListedServing i) ≡ left
+    told-serving e = told-at ListedServing (at-place ∙ refuse-later _ ranged (refuse-now _ _ (ap not e)))
+
+    module _ (other : is s (getD l i 0) ≡ false) where
+      pub told-again : mem (getD l i 0) (take i l) ≡ true → refusedFor (ListedAgain i) ≡ left
+      told-again e = told-at ListedAgain (at-place ∙ refuse-later _ ranged (refuse-later _ (ap not other) (refuse-now _ _ (ap not e))))
+
+      -- or it has none, and the next place follows
+      pub next-place : mem (getD l i 0) (take i l) ≡ false → unlessFaultyFrom s (take (i + 1) l) (drop (i + 1) l) a ≡ left
+      next-place e = sym (at-place ∙ refuse-later _ ranged (refuse-later _ (ap not other) (refuse-later _ (ap not e) refl)))

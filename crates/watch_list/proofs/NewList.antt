@@ -1,20 +1,17 @@
--- A new list: the parts of its test in the code's order, and a watch built channel by channel, each with the levels that it had.
+-- A new list: who serves, as the code has it, and a watch built channel by channel, each with the levels that it had.
 use Prim.Native.Nat.{ℕ, zero, suc, _+_, _≤_, _<_}
 use mathlib.Core.Path.{_≡_, refl, sym, ap, _∙_}
-use mathlib.Core.Bool.{Bool, true, false, not, cond, _&&_, _||_}
+use mathlib.Core.Bool.{Bool, true, false, cond}
 use mathlib.Core.List.{List, [], _∷_, _++_, map}
-use mathlib.Core.Option.{Option}
 use native.Mathlib.Omega.{arith}
-use lib.Dec.{eqb, leb}
 use lib.ListN.{length, take, getD, set, length-map}
 use lib.Seq.{length-take-le}
-use borrow.Author.Tests.{eq-eqb, ne-eqb}
+use borrow.Author.Tests.{eq-eqb}
 use Rattle.watch_rules.specs.declared.Track.{Track}
 use Rattle.watch_rules.specs.declared.Watch.{Watch}
-use Rattle.watch_rules.specs.Lists.{mem, distinct, every, is, padTo}
-use Rattle.readings_rules.specs.Channels.{channelInRange}
+use Rattle.watch_rules.specs.Lists.{padTo}
 use Rattle.watch_rules.specs.Limits.{listLimit, room}
-use Rattle.watch_rules.specs.Rules.{serves, listSound}
+use Rattle.watch_rules.specs.Rules.{serves}
 use Rattle.watch_rules.specs.Rows.{Row, row, levelsOf, first, relisted, listed}
 use Rattle.watch_rules.specs.Record.{rowOf, rows, trackOf, unused, recordOf, trackFine, tracksFine, wellFormed}
 use Rattle.watch_rules.proofs.Laws.{clash, and-left}
@@ -23,19 +20,9 @@ use Rattle.watch_rules.proofs.Calls.{formed-long, formed-short}
 use Rattle.watch_rules.proofs.Relist.{length-relisted}
 use Rattle.watch_record.specs.Code.{nothing}
 use Rattle.watch_list.specs.Code.{servingOf}
-use Rattle.watch_list.proofs.ListScan.{more, none-is-mem, every-true}
+use Rattle.watch_list.proofs.ListScan.{more}
 
--- ---- the test
-
--- the parts of the test in the code's order
-pub list-parts : (s : Option ℕ) (l : List ℕ)
-    → listSound s l ≡ (leb (length l) listLimit && ((every channelInRange l && distinct l) && every (λ c. not (is s c)) l))
-list-parts s l = go (leb (length l) listLimit) (every channelInRange l) (distinct l) (every (λ c. not (is s c)) l)
-  where
-    go : (a b c d : Bool) → ((a && b) && (c && d)) ≡ (a && ((b && c) && d))
-    go true true c d = refl
-    go true false c d = refl
-    go false b c d = refl
+-- ---- who serves
 
 serving-at : (n : ℕ) (ts : List Track) → n ≤ length ts → first (map rowOf (take n ts)) ≡ servingOf n (getD ts 0 nothing .channel)
 serving-at zero [] h = refl
@@ -53,13 +40,6 @@ serving-none n s e = ap (λ (k : ℕ). serves (servingOf k s)) e
 pub serving-some : (n s : ℕ) → (n ≡ 0 → ⊥) → serves (servingOf n s) ≡ true
 serving-some zero s h = absurd (h refl)
 serving-some (suc n) s h = refl
-
--- nobody serves, or s does
-pub not-serving : (n s : ℕ) (l : List ℕ) → every (λ k. not (is (servingOf n s) k)) l ≡ (eqb n 0 || not (mem s l))
-not-serving zero s l = every-true l
-not-serving (suc n) s l =
-    let h : suc n ≡ 0 → ⊥ = λ e. omega arith in
-    none-is-mem s l ∙ ap (λ (b : Bool). b || not (mem s l)) (sym (ne-eqb (suc n) 0 h))
 
 -- ---- the watch
 

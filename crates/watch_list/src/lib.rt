@@ -2,20 +2,21 @@
 // value and hands it back beside its answer; refused, it hands back the very watch that it was given. Users name them as `watch::start`,
 // `watch::new_list` and `watch::move_to`.
 ghost use mathlib.Core.Path.{_≡_};
-ghost use mathlib.Core.Bool.{true, _&&_};
-ghost use mathlib.Core.List.{map};
+ghost use mathlib.Core.Bool.{true};
+ghost use mathlib.Core.List.{[], map};
 ghost use Prim.Native.Nat.{_≤_, _<_};
 ghost use lib.ListN.{length, take, getD};
-ghost use Rattle.watch_rules.specs.Lists.{mem, every, distinct};
-ghost use Rattle.readings_rules.specs.Channels.{channelInRange};
+ghost use Rattle.refusal.specs.Told.{accepted, toldOutcome};
+ghost use Rattle.watch_rules.specs.Lists.{mem};
 ghost use Rattle.watch_rules.specs.Limits.{listLimit, room};
 ghost use Rattle.watch_rules.specs.Told.{Call, toldHanded};
-ghost use Rattle.watch_rules.specs.Rules.{listSound};
+ghost use Rattle.watch_rules.specs.Rules.{unlessFaultyFrom, unlessFaulty};
 ghost use Rattle.watch_rules.specs.Rows.{relisted};
 ghost use Rattle.watch_rules.specs.Record.{recordOf, rowOf, tracksFine, called};
 ghost use Rattle.watch_record.specs.Code.{nothing};
 ghost use Rattle.watch_list.specs.Code.{keptFrom, servingOf, exchange};
 use readings_rules::CHANNEL_HIGHEST;
+use refusal::Outcome;
 use refusal::Refusal;
 use watch_record::answered;
 use watch_record::depth_in_range;
@@ -67,31 +68,38 @@ fn has(list: &[u16], n: usize, channel: u16) -> bool
     false
 }
 
-// The channels of the list lie in the range and differ.
-fn channels_ok(list: &[u16]) -> bool
-    ensures { λ r. ⌜ r ≡ (every channelInRange (now (list .entry)) && distinct (now (list .entry))) ⌝ }
+// The fault of the first faulty place of a list that is not too long: range, serving channel, repeat of an earlier place.
+fn first_fault(list: &[u16], watched: usize, serving: u16) -> Outcome
+    requires { ⌜ length (now list) ≤ listLimit ⌝ }
+    ensures { λ r. ⌜ toldOutcome r ≡ unlessFaultyFrom (servingOf watched serving) [] (now (list .entry)) accepted ⌝ }
 {
     let n = list.len();
     let mut i = 0;
     while i < n {
         let c = list[i];
-        if (c > CHANNEL_HIGHEST) | has(list, i, c) {
-            return false;
+        let place = i as u16;
+        if c > CHANNEL_HIGHEST {
+            return Outcome::Refused(Refusal::ListedOutOfRange(place));
+        }
+        if (watched != 0) & (c == serving) {
+            return Outcome::Refused(Refusal::ListedServing(place));
+        }
+        if has(list, i, c) {
+            return Outcome::Refused(Refusal::ListedAgain(place));
         }
         i += 1;
     }
-    true
+    Outcome::Accepted
 }
 
-// The list may be taken: at most 6 channels, in range, no repeat, and not the serving channel.
-fn list_ok(list: &[u16], watched: usize, serving: u16) -> bool
-    ensures { λ r. ⌜ r ≡ listSound (servingOf watched serving) (now (list .entry)) ⌝ }
+// The fault of a list, where it has one: over 6 channels comes first. Nobody serves where nothing is watched.
+fn list_fault(list: &[u16], watched: usize, serving: u16) -> Outcome
+    ensures { λ r. ⌜ toldOutcome r ≡ unlessFaulty (servingOf watched serving) (now (list .entry)) accepted ⌝ }
 {
-    let n = list.len();
-    if n > LIST_LIMIT {
-        return false;
+    if list.len() > LIST_LIMIT {
+        return Outcome::Refused(Refusal::ListTooLong);
     }
-    channels_ok(list) & ((watched == 0) | !has(list, n, serving))
+    first_fault(list, watched, serving)
 }
 
 // The channel with the levels of the track at place p; without levels where p is not below n.
@@ -141,8 +149,8 @@ pub fn new_list(w: Watch, list: &[u16]) -> Handed
     let tracks = w.tracks;
     let n = w.watched;
     let s = tracks[0];
-    if !list_ok(list, n, s.channel) {
-        return refused(w, Refusal::ListFaulty);
+    if let Outcome::Refused(why) = list_fault(list, n, s.channel) {
+        return refused(w, why);
     }
     if n == 0 {
         return refused(w, Refusal::NotWatched);

@@ -11,7 +11,7 @@ use lib.ListN.{length, drop, take, getD, length-take, drop-of-length-le}
 use lib.Seq.{drop-cons, take-suc, split-at, take-take, getD-take}
 use mir.Syntax.{w16}
 use mir.Val.{SFits, ofZ}
-use borrow.Author.Tests.{eqb-true, ne-eqb, le-leb, lt-leb, leb-true, leb-false, ltb-true, ltb-false}
+use borrow.Author.Tests.{eqb-true, ne-eqb, leb-true, leb-false, ltb-true, ltb-false}
 use Rattle.watch_rules.specs.declared.Track.{Track}
 use Rattle.watch_rules.specs.Lists.{mem, distinct}
 use Rattle.readings_rules.specs.Ranges.{levelInRange}

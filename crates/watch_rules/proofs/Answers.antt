@@ -8,7 +8,9 @@ use lib.IntN.{ℤ, pos}
 use lib.Signed.{_≤ℤ_}
 use Rattle.readings_rules.specs.Channels.{channelHighest}
 use Rattle.refusal.specs.declared.Refusal.the-variants as why
+use Rattle.refusal.specs.declared.Reason.the-variants.{Alone}
 use Rattle.refusal.specs.Told.{Told, gives}
+use Rattle.refusal.proofs.Provided.{refuse-now, refuse-later}
 use Rattle.watch_rules.specs.Lists.{is, sum}
 use Rattle.watch_rules.specs.Limits.{hysteresisInRange}
 use Rattle.watch_rules.specs.Told.{ask, verdict, Given, wait}
@@ -16,14 +18,14 @@ use Rattle.watch_rules.specs.Rules.{View, watched, serves, answer, mean,
 use Rattle.watch_rules.specs.Claims.{meanTold, movesTo}
 use Rattle.watch_rules.proofs.Laws.{byCase, and-both}
 use Rattle.watch_rules.proofs.Order.{yes-le}
-use Rattle.watch_rules.proofs.Calls.{refuse-now, refuse-later, refused-answer, granted-answer}
+use Rattle.watch_rules.proofs.Calls.{refused-answer, granted-answer}
 use Rattle.watch_rules.proofs.Best.{best-none}
 
 pub mean-told : (v : View) (c : ℕ) → (watched v c ≡ false → v .levels c ≡ []) → meanTold (answer v (ask c)) ≡ mean (v .levels c)
 mean-told v c bare =
     byCase (watched v c)
     (λ e. ap meanTold (granted-answer v (ask c) (refuse-later why.NotWatched e refl)))
-    (λ e. ap meanTold (refused-answer v (ask c) why.NotWatched (refuse-now why.NotWatched none e)) ∙ sym (ap mean (bare e)))
+    (λ e. ap meanTold (refused-answer v (ask c) (Alone 6) (refuse-now why.NotWatched _ e)) ∙ sym (ap mean (bare e)))
 
 -- while the serving channel has fewer levels than the depth, nothing is moved to
 no-target : (v : View) (h : ℤ) → full (v .depth) (servingLevels v) ≡ false → target v h ≡ none
@@ -60,7 +62,7 @@ moved-told v h c alone low high =
     ∙ byCase (full (v .depth) (servingLevels v)) (λ f. judge f ∙ named (target v h) c) (λ f. judge f ∙ nothing (no-target v h f)))
     (λ s.
     ap (λ (a : Told Given). movesTo a c)
-    (refused-answer v (verdict h) why.NotWatched (refuse-later why.ParameterOutOfRange r (refuse-now why.NotWatched none s)))
+    (refused-answer v (verdict h) (Alone 6) (refuse-later why.ParameterOutOfRange r (refuse-now why.NotWatched _ s)))
     ∙ nothing (no-neighbour v h (alone s)))
   where
     r : hysteresisInRange h ≡ true

@@ -4,21 +4,19 @@ use Prim.Native.Nat.{ℕ, zero, suc, _≤_, _<_}
 use mathlib.Core.Path.{_≡_, refl, ap, _∙_}
 use mathlib.Core.Bool.{Bool, true, false, cond, _&&_}
 use mathlib.Core.List.{List, [], _∷_}
-use mathlib.Core.Option.{Option, none, some, Option·some-ne-none}
 use native.Mathlib.Omega.{arith}
 use lib.Dec.{eqb}
 use lib.ListN.{length, getD}
 use borrow.Author.Tests.{eqb-true}
-use Rattle.refusal.specs.declared.Refusal.{Refusal}
 use Rattle.refusal.specs.declared.Refusal.the-variants.{RecordNotWellFormed}
-use Rattle.refusal.specs.Told.{Told, gives, refusedFor}
+use Rattle.refusal.specs.declared.Reason.{Reason}
+use Rattle.refusal.specs.Told.{Told, refused, gives, refusedFor, giving, unlessRefused}
 use Rattle.watch_rules.specs.declared.Track.{Track}
 use Rattle.watch_rules.specs.declared.Watch.{Watch}
-use Rattle.watch_rules.specs.declared.Handed.{Handed}
 use Rattle.watch_rules.specs.Lists.{mem}
 use Rattle.watch_rules.specs.Limits.{room}
-use Rattle.watch_rules.specs.Told.{Call, Called, Given, accepted, told, toldHanded}
-use Rattle.watch_rules.specs.Rules.{View, watched, refusal, refuseUnless, answer, granted, orRefused, unlessRefused}
+use Rattle.watch_rules.specs.Told.{Call, Called, Given, accepted}
+use Rattle.watch_rules.specs.Rules.{View, watched, allowed, answer, granted}
 use Rattle.watch_rules.specs.Rows.{Row, channels, shown}
 use Rattle.watch_rules.specs.Record.{rows, viewOf, recordOf, changedRecord, tracksFine, trackFine, depthFine, wellFormed, handed, returned, called, tested}
 use Rattle.watch_rules.proofs.Laws.{clash, and-left, and-right}
@@ -28,9 +26,6 @@ use Rattle.watch_rules.proofs.Encode.{tracks-read, rows-record, well-fo
 abbrev pub handing : Watch → Told Given → Called
 handing w a = record { watch = w; answer = a }
 
-pub handed-path : (r : Handed) (c : Called) → r .watch ≡ c .watch → told (r .answer) ≡ c .answer → toldHanded r ≡ c
-handed-path r c p q = λ i. record { watch = p i; answer = q i }
-
 -- ---- the cases of a call
 
 pub called-unformed : (w : Watch) (k : Call) → wellFormed w ≡ false → called w k ≡ handing w (refusedFor RecordNotWellFormed)
@@ -38,18 +33,18 @@ unfolding called
 called-unformed w k e = ap (λ (b : Bool). cond b (handed w (rows w) k) (returned w)) e
 
 module _ (w : Watch) (k : Call) (formed : wellFormed w ≡ true) where
-  called-formed : (o : Option Refusal) → refusal (viewOf w) k ≡ o
-      → called w k ≡ handing (unlessRefused o w (changedRecord (w .depth) (rows w) k)) (orRefused o (granted (viewOf w) k))
+  called-formed : (o : Told Unit) → allowed (viewOf w) k ≡ o
+      → called w k ≡ handing (unlessRefused o w (changedRecord (w .depth) (rows w) k)) (giving o (granted (viewOf w) k))
   unfolding called answer
   called-formed o e =
       ap (λ (b : Bool). cond b (handed w (rows w) k) (returned w)) formed
-      ∙ ap (λ (o : Option Refusal). handing (unlessRefused o w (changedRecord (w .depth) (rows w) k)) (orRefused o (granted (viewOf w) k))) e
+      ∙ ap (λ (o : Told Unit). handing (unlessRefused o w (changedRecord (w .depth) (rows w) k)) (giving o (granted (viewOf w) k))) e
 
-  pub called-refused : (r : Refusal) → refusal (viewOf w) k ≡ some r → called w k ≡ handing w (refusedFor r)
-  called-refused r e = called-formed (some r) e
+  pub called-refused : {n : Reason} → allowed (viewOf w) k ≡ refused n → called w k ≡ handing w (refused n)
+  called-refused {n} e = called-formed (refused n) e
 
-  pub called-granted : refusal (viewOf w) k ≡ none → called w k ≡ handing (changedRecord (w .depth) (rows w) k) (gives (granted (viewOf w) k))
-  called-granted e = called-formed none e
+  pub called-granted : allowed (viewOf w) k ≡ gives tt → called w k ≡ handing (changedRecord (w .depth) (rows w) k) (gives (granted (viewOf w) k))
+  called-granted e = called-formed (gives tt) e
 
 -- the test of well-formedness
 pub tested-formed : (w : Watch) → wellFormed w ≡ true → tested w ≡ handing w (gives accepted)
@@ -67,32 +62,17 @@ called-record d rs k g =
     ap (λ (b : Bool). cond b (handed (recordOf d rs) (rows (recordOf d rs)) k) (returned (recordOf d rs))) (well-formed-record d rs g)
     ∙ ap (λ (q : List Row). handed (recordOf d rs) q k) (rows-record d rs)
 
--- ---- the chain of refusals: a test that fails refuses, one that holds goes on to the next
+-- ---- the answer
 
-pub refuse-now : {b : Bool} (r : Refusal) (o : Option Refusal) → b ≡ false → refuseUnless b r o ≡ some r
-refuse-now r o e = ap (λ (b : Bool). refuseUnless b r o) e
-
-pub refuse-later : {b : Bool} (r : Refusal) {o p : Option Refusal} → b ≡ true → o ≡ p → refuseUnless b r o ≡ p
-refuse-later r {o} e q = ap (λ (b : Bool). refuseUnless b r o) e ∙ q
-
--- where nothing refuses, each test of the chain holds
-pub passed-test : (r : Refusal) (b : Bool) (o : Option Refusal) → refuseUnless b r o ≡ none → b ≡ true
-passed-test r true o e = refl
-passed-test r false o e = absurd (Option·some-ne-none r e)
-
-pub passed-rest : (r : Refusal) (b : Bool) (o : Option Refusal) → refuseUnless b r o ≡ none → o ≡ none
-passed-rest r true o e = e
-passed-rest r false o e = absurd (Option·some-ne-none r e)
-
--- and then the answer is what the rules grant
-pub granted-answer : (v : View) (k : Call) → refusal v k ≡ none → answer v k ≡ gives (granted v k)
+-- where the call is allowed, what the rules grant
+pub granted-answer : (v : View) (k : Call) → allowed v k ≡ gives tt → answer v k ≡ gives (granted v k)
 unfolding answer
-granted-answer v k e = ap (λ (o : Option Refusal). orRefused o (granted v k)) e
+granted-answer v k e = ap (λ (o : Told Unit). giving o (granted v k)) e
 
--- or, where one refuses, its number
-pub refused-answer : (v : View) (k : Call) (r : Refusal) → refusal v k ≡ some r → answer v k ≡ refusedFor r
+-- or, where it is not, what is told of the refusal
+pub refused-answer : (v : View) (k : Call) (n : Reason) → allowed v k ≡ refused n → answer v k ≡ refused n
 unfolding answer
-refused-answer v k r e = ap (λ (o : Option Refusal). orRefused o (granted v k)) e
+refused-answer v k n e = ap (λ (o : Told Unit). giving o (granted v k)) e
 
 -- ---- what a well-formed record is
 

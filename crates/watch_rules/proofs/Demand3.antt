@@ -1,30 +1,32 @@
 -- Demand 3. Record and plain watch keep in step through every call, granted or refused, from the fresh one on; what they show is then one
--- value, and all that is compared follows from it. The plain watch sees only the set of a list, so the order within lists is nothing.
-use Prim.Native.Nat.{ℕ}
-use mathlib.Core.Path.{_≡_, refl, sym, ap, ap₂, _∙_, subst}
-use mathlib.Core.Bool.{Bool, false, cond, _&&_, _||_}
+-- value, and all that is compared follows from it. Of a list the plain watch takes the set alone; only which fault is told first goes by its
+-- order.
+use Prim.Native.Nat.{ℕ, _≤_}
+use mathlib.Core.Path.{_≡_, refl, sym, ap, ap₂, _∙_, subst, subst₂}
+use mathlib.Core.Bool.{false, cond, _&&_, _||_}
 use mathlib.Core.List.{List, [], _∷_, map}
-use mathlib.Core.Option.{Option, none, some}
+use native.Mathlib.Omega.{arith}
 use lib.Dec.{eqb}
 use lib.ListN.{length, take, length-map}
-use Rattle.refusal.specs.declared.Refusal.{Refusal}
-use Rattle.refusal.specs.declared.Refusal.the-variants as why
-use Rattle.refusal.specs.Told.{Told, refused, gives}
+use Rattle.refusal.specs.declared.Reason.the-variants.{At}
+use Rattle.refusal.specs.Told.{Told, refused, gives, giving, unlessRefused}
 use Rattle.readings_rules.specs.Burst.{BurstResult, heard, missed, burstOf}
 use Rattle.watch_rules.specs.declared.Watch.{Watch}
 use Rattle.watch_rules.specs.Lists.{mem, is, padTo}
 use Rattle.watch_rules.specs.Limits.{room}
 use Rattle.watch_rules.specs.Told.{Call, start, newList, move, file, ask, verdict, Called, Given, accepted}
-use Rattle.watch_rules.specs.Rules.{View, watched, serves, refusal, refuseUnless, answer, orRefused, unlessRefused, full, counts, target}
+use Rattle.watch_rules.specs.Rules.{View, watched, serves, unlessFaulty, allowed, answer, full, counts, target}
+use Rattle.watch_rules.specs.Refusals.{Faulty, tooLong}
 use Rattle.watch_rules.specs.Plain.{Plain, idle, underWatch, seen, afterFile, change, next, answers, after}
 use Rattle.watch_rules.specs.Rows.{Row, channels, levelsOf, first, rest, shown, changedRows, changedDepth}
-use Rattle.watch_rules.specs.Record.{rows, viewOf, trackOf, unused, recordOf, changedRecord, fresh, called, answersFrom, afterFrom}
-use Rattle.watch_rules.specs.Claims.{meanTold, movesTo, Compared, countOf, ofRecord, ofPlain, Alike, ButForOrder, same, lists, AllButForOrder, end, more, AsPlain, PlaceFree, Demand3}
+use Rattle.watch_rules.specs.Record.{viewOf, trackOf, unused, recordOf, changedRecord, fresh, called, answersFrom, afterFrom}
+use Rattle.watch_rules.specs.Claims.{meanTold, movesTo, Compared, countOf, ofRecord, ofPlain, Alike, Reordered, ButForOrder, same, lists, AllButForOrder, end, more, OneOfFaults, AsPlain, ButForFault, sameAnswer, faults, AllButForFault, noMore, andMore, PlaceFree, Demand3}
 use Rattle.watch_rules.proofs.Laws.{byCase, clash, take-padTo, view-path, levels-none}
+use Rattle.watch_rules.proofs.Faults.{fault-number, fault-faulty, Judged, isLong, hasFault, isSound, judged, long-refused, fault-refused, sound-allowed}
 use Rattle.watch_rules.proofs.Encode.{rows-record}
 use Rattle.watch_rules.proofs.Calls.{called-record, first-watched}
 use Rattle.watch_rules.proofs.Steps.{Step, step}
-use Rattle.watch_rules.proofs.Reorder.{mem-reordered, sound-reordered}
+use Rattle.watch_rules.proofs.Reorder.{length-reordered, faulty-reordered, mem-reordered}
 use Rattle.watch_rules.proofs.Answers.{mean-told, moved-told}
 
 -- ---- in step through every call
@@ -57,24 +59,24 @@ module _ (rs : List Row) (p : Plain) (k : Call) (s : Step rs p) where
   answered-step = ap (λ (o : Called). o .answer) (called-record (p .depth) rs k (s .good)) ∙ ap (λ (v : View). answer v k) (s .same)
 
   linked-step : Linked (called old k .watch) (next p k)
-  linked-step = subst (λ (o : Option Refusal). Linked (called old k .watch) (unlessRefused o p (change p k))) also (go (refusal (shown (p .depth) rs) k) refl)
+  linked-step = subst (λ (o : Told Unit). Linked (called old k .watch) (unlessRefused o p (change p k))) also (go (allowed (shown (p .depth) rs) k) refl)
     where
-      at : {o : Option Refusal} → refusal (shown (p .depth) rs) k ≡ o → called old k .watch ≡ unlessRefused o old (changedRecord (p .depth) rs k)
+      at : {o : Told Unit} → allowed (shown (p .depth) rs) k ≡ o → called old k .watch ≡ unlessRefused o old (changedRecord (p .depth) rs k)
       at e =
           ap (λ (o : Called). o .watch) (called-record (p .depth) rs k (s .good))
-          ∙ ap (λ (o : Option Refusal). unlessRefused o old (changedRecord (p .depth) rs k)) e
+          ∙ ap (λ (o : Told Unit). unlessRefused o old (changedRecord (p .depth) rs k)) e
 
-      also : refusal (shown (p .depth) rs) k ≡ refusal (seen p) k
-      also = ap (λ (v : View). refusal v k) (s .same)
+      also : allowed (shown (p .depth) rs) k ≡ allowed (seen p) k
+      also = ap (λ (v : View). allowed v k) (s .same)
 
-      go : (o : Option Refusal) → refusal (shown (p .depth) rs) k ≡ o → Linked (called old k .watch) (unlessRefused o p (change p k))
-      go none e =
+      go : (o : Told Unit) → allowed (shown (p .depth) rs) k ≡ o → Linked (called old k .watch) (unlessRefused o p (change p k))
+      go (gives u) e =
           record {
             held = changedRows (p .depth) rs k;
             made = at e ∙ ap (λ (n : ℕ). recordOf n (changedRows (p .depth) rs k)) (depth-changed p k);
             kept = step rs p k s e;
           }
-      go (some r) e = record { held = rs; made = at e; kept = s }
+      go (refused n) e = record { held = rs; made = at e; kept = s }
 
 linked-next : {w : Watch} {p : Plain} (k : Call) → Linked w p → Linked (called w k .watch) (next p k)
 linked-next {p = p} k l = subst (λ (x : Watch). Linked (called x k .watch) (next p k)) (sym (l .made)) (linked-step (l .held) p k (l .kept))
@@ -162,15 +164,48 @@ asPlain ks = record { answered = answered-all ks fresh idle linked-fresh; alike 
 
 -- ---- the order within lists
 
-refusal-but : (v : View) {k j : Call} → ButForOrder k j → refusal v k ≡ refusal v j
-refusal-but v (same k) = refl
-refusal-but v (lists l m r) =
-    ap (λ (b : Bool). refuseUnless b why.ListFaulty (refuseUnless (serves (v .serving)) why.NotWatched none)) (sound-reordered (v .serving) l m r)
+pub one-of-faults : (n : ℕ) → (12 ≤ n) × (n ≤ 14) → OneOfFaults n
+one-of-faults n k = (omega (arith, k .0), omega (arith, k .1))
 
-answer-but : (v : View) {k j : Call} → ButForOrder k j → answer v k ≡ answer v j
+-- whether two calls are allowed: alike, or both refused for a fault of their lists
+data AllowedAlike : Told Unit → Told Unit → Type 0 where
+  alikeAllowed : (a : Told Unit) → AllowedAlike a a
+  bothFaulty : (n m place other : ℕ) → OneOfFaults n → OneOfFaults m → AllowedAlike (refused (At n place)) (refused (At m other))
+
+-- two lists of which each is as the other but for its order: both are too long, or both have a first fault, or neither is faulty
+module _ (p : Plain) (a : Told Unit) (l m : List ℕ) (r : Reordered l m) where
+  back : Faulty p m → Faulty p l
+  back = faulty-reordered m l (λ (c : ℕ). sym (r c)) p
+
+  equal-ends : {b : Told Unit} → unlessFaulty (p .serving) l a ≡ b → unlessFaulty (p .serving) m a ≡ b
+      → AllowedAlike (unlessFaulty (p .serving) l a) (unlessFaulty (p .serving) m a)
+  equal-ends e f = subst (AllowedAlike (unlessFaulty (p .serving) l a)) (e ∙ sym f) (alikeAllowed (unlessFaulty (p .serving) l a))
+
+  lists-alike : Judged p l → Judged p m → AllowedAlike (unlessFaulty (p .serving) l a) (unlessFaulty (p .serving) m a)
+  lists-alike (isLong h) (isLong k) = equal-ends (long-refused p l a h) (long-refused p m a k)
+  lists-alike (isLong h) (hasFault place n k f) = absurd (let e = length-reordered l m r in omega arith)
+  lists-alike (isLong h) (isSound n) = absurd (n (faulty-reordered l m r p (tooLong h)))
+  lists-alike (hasFault place n h f) (isLong k) = absurd (let e = length-reordered l m r in omega arith)
+  lists-alike (hasFault place n h f) (hasFault other o k g) =
+      subst₂ AllowedAlike (sym (fault-refused p l a h f)) (sym (fault-refused p m a k g))
+      (bothFaulty n o place other (one-of-faults n (fault-number (f .fault))) (one-of-faults o (fault-number (g .fault))))
+  lists-alike (hasFault place n h f) (isSound x) = absurd (x (faulty-reordered l m r p (fault-faulty p l (f .fault))))
+  lists-alike (isSound x) (isLong k) = absurd (x (back (tooLong k)))
+  lists-alike (isSound x) (hasFault place n k f) = absurd (x (back (fault-faulty p m (f .fault))))
+  lists-alike (isSound x) (isSound y) = equal-ends (sound-allowed p l a x) (sound-allowed p m a y)
+
+allowed-but : (p : Plain) {k j : Call} → ButForOrder k j → AllowedAlike (allowed (seen p) k) (allowed (seen p) j)
+allowed-but p (same k) = alikeAllowed (allowed (seen p) k)
+allowed-but p (lists l m r) = lists-alike p _ l m r (judged p l) (judged p m)
+
+answer-alike : {a b : Told Unit} (g : Given) → AllowedAlike a b → ButForFault (giving a g) (giving b g)
+answer-alike g (alikeAllowed a) = sameAnswer (giving a g)
+answer-alike g (bothFaulty n m place other x y) = faults n m place other x y
+
+answer-but : (p : Plain) {k j : Call} → ButForOrder k j → ButForFault (answer (seen p) k) (answer (seen p) j)
 unfolding answer
-answer-but v (same k) = refl
-answer-but v (lists l m r) = ap (λ (o : Option Refusal). orRefused o accepted) (refusal-but v (lists l m r))
+answer-but p (same k) = sameAnswer (answer (seen p) k)
+answer-but p (lists l m r) = answer-alike accepted (allowed-but p (lists l m r))
 
 change-but : (p : Plain) {k j : Call} → ButForOrder k j → change p k ≡ change p j
 change-but p (same k) = refl
@@ -183,13 +218,17 @@ change-but p (lists l m r) =
       levels = λ c. cond (underWatch p c && (is (p .serving) c || mem-reordered l m r c i)) (p .levels c) [];
     }
 
-next-but : (p : Plain) {k j : Call} → ButForOrder k j → next p k ≡ next p j
-next-but p b = ap₂ (λ (o : Option Refusal) (q : Plain). unlessRefused o p q) (refusal-but (seen p) b) (change-but p b)
+next-alike : {a b : Told Unit} (p q : Plain) → AllowedAlike a b → unlessRefused a p q ≡ unlessRefused b p q
+next-alike p q (alikeAllowed a) = refl
+next-alike p q (bothFaulty n m place other x y) = refl
 
-answers-but : (p : Plain) {ks js : List Call} → AllButForOrder ks js → answers p ks ≡ answers p js
-answers-but p end = refl
+next-but : (p : Plain) {k j : Call} → ButForOrder k j → next p k ≡ next p j
+next-but p {k} {j} b = next-alike p (change p k) (allowed-but p b) ∙ ap (unlessRefused (allowed (seen p) j) p) (change-but p b)
+
+answers-but : (p : Plain) {ks js : List Call} → AllButForOrder ks js → AllButForFault (answers p ks) (answers p js)
+answers-but p end = noMore
 answers-but p (more {k} {j} {ks} {js} b bs) =
-    ap₂ _∷_ (answer-but (seen p) b) (answers-but (next p k) bs ∙ ap (λ (q : Plain). answers q js) (next-but p b))
+    andMore (answer-but p b) (subst (λ (q : Plain). AllButForFault (answers (next p k) ks) (answers q js)) (next-but p b) (answers-but (next p k) bs))
 
 after-but : (p : Plain) {ks js : List Call} → AllButForOrder ks js → after p ks ≡ after p js
 after-but p end = refl
@@ -210,7 +249,7 @@ alike-both x y =
 placeFree : (ks js : List Call) → AllButForOrder ks js → PlaceFree ks js
 placeFree ks js b =
     record {
-      answered = asPlain ks .answered ∙ answers-but idle b ∙ sym (asPlain js .answered);
+      answered = subst₂ AllButForFault (sym (asPlain ks .answered)) (sym (asPlain js .answered)) (answers-but idle b);
       alike =
           alike-both
           (subst (λ (p : Plain). Alike (ofRecord (afterFrom fresh ks)) (ofPlain p)) (after-but idle b) (asPlain ks .alike))

@@ -4,14 +4,13 @@ use Prim.Native.Nat.{ℕ, _≤_}
 use mathlib.Core.Path.{_≡_, refl, sym, ap, _∙_, subst}
 use mathlib.Core.Bool.{true}
 use mathlib.Core.List.{List, [], _∷_, _++_}
-use mathlib.Core.Option.{Option, none, some, Option·some-ne-none}
+use mathlib.Core.Option.{none, Option·some-ne-none}
 use borrow.Author.Tests.{eqb-true}
-use Rattle.refusal.specs.declared.Refusal.{Refusal}
-use Rattle.refusal.specs.Told.{Told, refused, gives}
+use Rattle.refusal.specs.Told.{Told, refused, gives, unlessRefused}
 use Rattle.readings_rules.specs.Burst.{BurstResult, heard, missed, burstOf}
 use Rattle.watch_rules.specs.declared.Watch.{Watch}
 use Rattle.watch_rules.specs.Told.{Call, start, newList, move, file, ask, verdict}
-use Rattle.watch_rules.specs.Rules.{View, serves, refusal, unlessRefused}
+use Rattle.watch_rules.specs.Rules.{View, serves, allowed}
 use Rattle.watch_rules.specs.Plain.{Plain, idle, seen, afterFile, change, next, after}
 use Rattle.watch_rules.specs.Rows.{Row, first, changedDepth}
 use Rattle.watch_rules.specs.Record.{recordOf, fresh, called, afterFrom}
@@ -26,9 +25,9 @@ use Rattle.watch_rules.proofs.Demand3.{Linked, linked, depth-changed}
 -- ---- the plain watch
 
 -- what holds before a call, and after it where it is accepted, holds after it in any case
-by-refusal : (P : Plain → Type 0) (o : Option Refusal) (p q : Plain) → P p → P q → P (unlessRefused o p q)
-by-refusal P none p q x y = y
-by-refusal P (some r) p q x y = x
+by-refusal : (P : Plain → Type 0) (o : Told Unit) (p q : Plain) → P p → P q → P (unlessRefused o p q)
+by-refusal P (gives u) p q x y = y
+by-refusal P (refused n) p q x y = x
 
 keeps : (k : Call) (n : ℕ) → ((c d : ℕ) → ¬ (k ≡ start c d)) → changedDepth n k ≡ n
 keeps (start c d) n other = absurd (other c d refl)
@@ -40,7 +39,7 @@ keeps (verdict h) n other = refl
 
 depth-next : (p : Plain) (k : Call) → ((c d : ℕ) → ¬ (k ≡ start c d)) → next p k .depth ≡ p .depth
 depth-next p k other =
-    by-refusal (λ (q : Plain). q .depth ≡ p .depth) (refusal (seen p) k) p (change p k) refl (sym (depth-changed p k) ∙ keeps k (p .depth) other)
+    by-refusal (λ (q : Plain). q .depth ≡ p .depth) (allowed (seen p) k) p (change p k) refl (sym (depth-changed p k) ∙ keeps k (p .depth) other)
 
 serving-filed : (p : Plain) (c : ℕ) (t : Told BurstResult) → serves (p .serving) ≡ true → serves (afterFile p c t .serving) ≡ true
 serving-filed p c (gives (heard x q)) e = e
@@ -59,7 +58,7 @@ serving-after : (p : Plain) (js : List Call) → serves (p .serving) ≡ true �
 serving-after p [] e = e
 serving-after p (k ∷ js) e =
     serving-after (next p k) js
-    (by-refusal (λ (q : Plain). serves (q .serving) ≡ true) (refusal (seen p) k) p (change p k) e (serving-changed p k e))
+    (by-refusal (λ (q : Plain). serves (q .serving) ≡ true) (allowed (seen p) k) p (change p k) e (serving-changed p k e))
 
 after-append : (p : Plain) (ks js : List Call) → after p (ks ++ js) ≡ after (after p ks) js
 after-append p [] js = refl

@@ -1,22 +1,20 @@
 -- What follows of every record that calls leave: it is well formed, so its rows are good. And a record that no calls leave is not well
 -- formed, so every call on it is refused with 9.
-use Prim.Native.Nat.{ℕ, _≤_}
-use mathlib.Core.Path.{_≡_, sym, ap, _∙_}
+use Prim.Native.Nat.{ℕ}
+use mathlib.Core.Path.{_≡_, refl, sym, ap, _∙_}
 use mathlib.Core.Bool.{Bool, true, false}
 use mathlib.Core.List.{List, _∷_, List·Memᴰ, List·Memᴰ·head, List·Memᴰ·tail}
 use native.Mathlib.Omega.{arith}
 use lib.ListN.{length, take}
 use borrow.Author.Tests.{leb-true}
+use Rattle.refusal.specs.declared.Reason.the-variants.{Alone}
 use Rattle.readings_rules.specs.Channels.{channelInRange}
 use Rattle.readings_rules.specs.Ranges.{levelInRange}
 use Rattle.readings_rules.proofs.Ranges.{rangeRule}
 use Rattle.watch_rules.specs.declared.Watch.{Watch}
 use Rattle.watch_rules.specs.Lists.{every}
-use Rattle.watch_rules.specs.Told.{Call}
-use Rattle.watch_rules.specs.Plain.{Plain, idle, after}
 use Rattle.watch_rules.specs.Rows.{channels, levelsOf}
 use Rattle.watch_rules.specs.Record.{rows, wellFormed, fresh, called, afterFrom}
-use Rattle.watch_rules.specs.Refusals.{Refuses, hysteresisBelow, hysteresisAbove, depthBelow, depthAbove, startAbove, listFaulty, fileNotWatched, askNotWatched, moveNotListed, listIdle, verdictIdle, burstOutOfRange}
 use Rattle.watch_rules.specs.Claims.{countOf, Follows, ItFollows, Reachable, UnformedRule}
 use Rattle.watch_rules.proofs.Laws.{byCase, and-left, and-right}
 use Rattle.watch_rules.proofs.Words.{distinct-times, every-times}
@@ -26,6 +24,7 @@ use Rattle.watch_rules.proofs.Calls.{called-unformed, tested-unformed, 
 use Rattle.watch_rules.proofs.Relist.{levels-fine}
 use Rattle.watch_rules.proofs.Steps.{channels-fine}
 use Rattle.watch_rules.proofs.Demand3.{count-record}
+use Rattle.watch_rules.proofs.Refusals.{row-number}
 use Rattle.watch_rules.proofs.Rules.{refusalRule}
 use Rattle.watch_rules.proofs.Reach.{left-formed, wellFormedIsReachable}
 
@@ -59,21 +58,6 @@ itFollows ks = formed-follows (afterFrom fresh ks) (left-formed ks)
 not-formed : (w : Watch) → ¬ (Reachable w) → wellFormed w ≡ false
 not-formed w n = byCase (wellFormed w) (λ e. absurd (n (wellFormedIsReachable w .0 e))) (λ e. e)
 
--- the table has no 9
-no-nine : {p : Plain} {k : Call} {n : ℕ} → Refuses p k n → n ≤ 7
-no-nine (hysteresisBelow h l) = omega arith
-no-nine (hysteresisAbove h l) = omega arith
-no-nine (depthBelow c d l) = omega arith
-no-nine (depthAbove c d l) = omega arith
-no-nine (startAbove c d a b l) = omega arith
-no-nine (listFaulty l f) = omega arith
-no-nine (fileNotWatched c b w) = omega arith
-no-nine (askNotWatched c w) = omega arith
-no-nine (moveNotListed c e) = omega arith
-no-nine (listIdle l f e) = omega arith
-no-nine (verdictIdle h a b e) = omega arith
-no-nine (burstOutOfRange c b w e) = omega arith
-
 pub unformedRule : UnformedRule
 unformedRule w =
     record {
@@ -82,7 +66,5 @@ unformedRule w =
       formed = λ r. tested-formed w (wellFormedIsReachable w .1 r);
       others =
           λ k r e.
-          let row : Refuses (after idle (r .calls)) k 9 = refusalRule (r .calls) k 9 .0 (ap (λ (x : Watch). called x k .answer) (r .leave) ∙ e) in
-          let h = no-nine row in
-          omega arith;
+          row-number (refusalRule (r .calls) k (Alone 9) .0 (ap (λ (x : Watch). called x k .answer) (r .leave) ∙ e)) .1 refl;
     }

@@ -6,6 +6,8 @@ pub mod Recast
 pub mod Words
 pub mod Good
 pub mod Encode
+pub mod Faults
+pub mod ListSound
 pub mod Calls
 pub mod Order
 pub mod Best
@@ -24,6 +26,7 @@ pub mod Verdict
 pub mod Mean
 pub mod Unchanged
 pub mod Follows
+pub mod FaultClaims
 pub mod DepthKept
 pub mod Places
 pub mod Told

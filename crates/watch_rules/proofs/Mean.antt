@@ -11,6 +11,7 @@ use lib.Signed.{shrZ, _≤ℤ_}
 use lib.ListN.{length}
 use borrow.Author.Tests.{le-leb}
 use Rattle.refusal.specs.declared.Refusal.the-variants as why
+use Rattle.refusal.proofs.Provided.{refuse-later}
 use Rattle.watch_rules.specs.Lists.{sum}
 use Rattle.watch_rules.specs.Told.{ask}
 use Rattle.watch_rules.specs.Rules.{View, mean}
@@ -18,7 +19,7 @@ use Rattle.watch_rules.specs.Plain.{idle, seen, after}
 use Rattle.watch_rules.specs.Record.{fresh, called, afterFrom}
 use Rattle.watch_rules.specs.Claims.{IsMean, Asked, AskRule}
 use Rattle.watch_rules.proofs.Order.{le-yes}
-use Rattle.watch_rules.proofs.Calls.{refuse-later, granted-answer}
+use Rattle.watch_rules.proofs.Calls.{granted-answer}
 use Rattle.watch_rules.proofs.Demand3.{linked, shows, answered-next}
 use Rattle.watch_rules.proofs.Refusals.{yes-watched}
 

@@ -4,18 +4,16 @@ use Prim.Native.Nat.{ℕ}
 use mathlib.Core.Path.{_≡_, refl, sym, ap, _∙_}
 use mathlib.Core.Bool.{true, false, not}
 use mathlib.Core.List.{List, [], _∷_, _++_}
-use mathlib.Core.Option.{Option, none, some}
 use native.Mathlib.Omega.{arith}
 use lib.Dec.{eqb}
 use lib.ListN.{length, getD, drop}
 use borrow.Author.Tests.{eq-eqb}
-use Rattle.refusal.specs.declared.Refusal.{Refusal}
-use Rattle.refusal.specs.Told.{gives}
+use Rattle.refusal.specs.Told.{Told, refused, gives}
 use Rattle.refusal.proofs.OneToOne.{gives-refused}
 use Rattle.watch_rules.specs.declared.Watch.{Watch}
 use Rattle.watch_rules.specs.Lists.{mem, distinct}
 use Rattle.watch_rules.specs.Told.{Call, newList, move, Called, accepted}
-use Rattle.watch_rules.specs.Rules.{refusal}
+use Rattle.watch_rules.specs.Rules.{allowed}
 use Rattle.watch_rules.specs.Rows.{Row, channels, listed, moved, inPlaceOf, changedRows, changedDepth}
 use Rattle.watch_rules.specs.Record.{rows, viewOf, wellFormed, called}
 use Rattle.watch_rules.specs.Claims.{ListRule}
@@ -55,13 +53,13 @@ module _ (w : Watch) (k : Call) (ok : called w k .answer ≡ gives accepted) whe
   formed = byCase (wellFormed w) (λ f. f) (λ f. absurd (gives-refused (sym ok ∙ ap (λ (o : Called). o .answer) (called-unformed w k f))))
 
   left : channels (rows (called w k .watch)) ≡ channels (changedRows (w .depth) (rows w) k)
-  left = go (refusal (viewOf w) k) refl
+  left = go (allowed (viewOf w) k) refl
     where
-      go : (o : Option Refusal) → refusal (viewOf w) k ≡ o → channels (rows (called w k .watch)) ≡ channels (changedRows (w .depth) (rows w) k)
-      go none e =
+      go : (o : Told Unit) → allowed (viewOf w) k ≡ o → channels (rows (called w k .watch)) ≡ channels (changedRows (w .depth) (rows w) k)
+      go (gives u) e =
           ap (λ (o : Called). channels (rows (o .watch))) (called-granted w k formed e)
           ∙ ap channels (rows-record (changedDepth (w .depth) k) (changedRows (w .depth) (rows w) k))
-      go (some r) e = absurd (gives-refused (sym ok ∙ ap (λ (o : Called). o .answer) (called-refused w k formed r e)))
+      go (refused n) e = absurd (gives-refused (sym ok ∙ ap (λ (o : Called). o .answer) (called-refused w k formed e)))
 
 pub listRule : ListRule
 listRule w =

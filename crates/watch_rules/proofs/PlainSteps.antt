@@ -5,18 +5,18 @@ use mathlib.Core.Path.{_≡_, refl, sym, ap, _∙_, subst}
 use mathlib.Core.Logic.{_⊎_, inl, inr}
 use mathlib.Core.Bool.{Bool, true, not, cond, _&&_, _||_, or-true, and-false}
 use mathlib.Core.List.{List, []}
-use mathlib.Core.Option.{Option, none, some}
+use mathlib.Core.Option.{some}
 use lib.Dec.{eqb}
 use lib.IntN.{ℤ}
 use borrow.Author.Tests.{eqb-false, eq-eqb, ne-eqb}
-use Rattle.refusal.specs.declared.Refusal.{Refusal}
-use Rattle.refusal.specs.Told.{refused, gives}
+use Rattle.refusal.specs.declared.Reason.{Reason}
+use Rattle.refusal.specs.Told.{Told, refused, gives, unlessRefused}
 use Rattle.refusal.proofs.OneToOne.{gives-refused}
 use Rattle.readings_rules.specs.declared.Burst.the-variants.{Missed}
 use Rattle.readings_rules.specs.Burst.{heard}
 use Rattle.watch_rules.specs.Lists.{mem, is}
 use Rattle.watch_rules.specs.Told.{Call, start, newList, move, file, ask, verdict}
-use Rattle.watch_rules.specs.Rules.{refusal, answer, unlessRefused}
+use Rattle.watch_rules.specs.Rules.{allowed, answer}
 use Rattle.watch_rules.specs.Plain.{Plain, underWatch, seen, afterStart, afterNewList, afterMove, afterFile, change, next}
 use Rattle.watch_rules.specs.Refusals.{Accepted}
 use Rattle.watch_rules.specs.PlainSteps.{Started, Listed, Moved, Filed}
@@ -87,19 +87,19 @@ module _ (p : Plain) where
   -- ---- the steps
 
   accepted-next : (k : Call) → Accepted p k → change p k ≡ next p k
-  accepted-next k a = sym (ap (λ (o : Option Refusal). unlessRefused o p (change p k)) (no-refusal p k a))
+  accepted-next k a = sym (ap (λ (o : Told Unit). unlessRefused o p (change p k)) (no-refusal p k a))
 
-  refused-next : (k : Call) (n : ℕ) → answer (seen p) k ≡ refused n → next p k ≡ p
-  refused-next k n e = go (refusal (seen p) k) refl
+  refused-next : (k : Call) (n : Reason) → answer (seen p) k ≡ refused n → next p k ≡ p
+  refused-next k n e = go (allowed (seen p) k) refl
     where
-      go : (o : Option Refusal) → refusal (seen p) k ≡ o → next p k ≡ p
-      go none q = absurd (gives-refused (sym (granted-answer (seen p) k q) ∙ e))
-      go (some r) q = ap (λ (o : Option Refusal). unlessRefused o p (change p k)) q
+      go : (o : Told Unit) → allowed (seen p) k ≡ o → next p k ≡ p
+      go (gives u) q = absurd (gives-refused (sym (granted-answer (seen p) k q) ∙ e))
+      go (refused m) q = ap (λ (o : Told Unit). unlessRefused o p (change p k)) q
 
   -- a call that changes nothing where it is accepted
-  same-next : (o : Option Refusal) → unlessRefused o p p ≡ p
-  same-next none = refl
-  same-next (some r) = refl
+  same-next : (o : Told Unit) → unlessRefused o p p ≡ p
+  same-next (gives u) = refl
+  same-next (refused n) = refl
 
   steps : StepsOf p
   steps =
@@ -111,9 +111,9 @@ module _ (p : Plain) where
         files =
             λ c b level quality a e.
             subst (Filed p c level) (ap (afterFile p c) (sym e) ∙ accepted-next (file c b) a) (filed c level quality);
-        misses = λ c. same-next (refusal (seen p) (file c Missed));
-        asks = λ c. same-next (refusal (seen p) (ask c));
-        judges = λ h. same-next (refusal (seen p) (verdict h));
+        misses = λ c. same-next (allowed (seen p) (file c Missed));
+        asks = λ c. same-next (allowed (seen p) (ask c));
+        judges = λ h. same-next (allowed (seen p) (verdict h));
       }
 
 pub plainRule : PlainRule

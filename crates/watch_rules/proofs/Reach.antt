@@ -4,7 +4,7 @@ use Prim.Native.Nat.{ℕ, _≤_}
 use mathlib.Core.Path.{_≡_, refl, sym, ap, ap₂, _∙_, subst}
 use mathlib.Core.Bool.{Bool, true, false, not, _||_, or-true}
 use mathlib.Core.List.{List, [], _∷_, _++_, map, append-assoc, append-nil}
-use mathlib.Core.Option.{Option, none, some}
+use mathlib.Core.Option.{some}
 use native.Mathlib.Omega.{arith}
 use lib.Dec.{eqb, leb}
 use lib.IntN.{ℤ, pos}
@@ -12,9 +12,9 @@ use lib.ListN.{length, length-append, length-map}
 use mir.Syntax.{w16, w64}
 use mir.Val.{Fits}
 use borrow.Author.Tests.{eqb-true, eq-eqb, ne-eqb, le-leb, leb-true}
-use Rattle.refusal.specs.declared.Refusal.{Refusal}
 use Rattle.refusal.specs.declared.Refusal.the-variants as why
-use Rattle.refusal.specs.Told.{Told, gives}
+use Rattle.refusal.specs.Told.{Told, gives, acceptance, unlessRefused}
+use Rattle.refusal.proofs.Provided.{refuse-later}
 use Rattle.readings_rules.specs.declared.Burst.{Burst}
 use Rattle.readings_rules.specs.declared.Burst.the-variants.{Heard}
 use Rattle.readings_rules.specs.Ranges.{levelInRange}
@@ -27,7 +27,7 @@ use Rattle.watch_rules.specs.Lists.{mem, distinct, every}
 use Rattle.readings_rules.specs.Channels.{channelHighest, channelInRange}
 use Rattle.watch_rules.specs.Limits.{listLimit, depthInRange}
 use Rattle.watch_rules.specs.Told.{Call, start, newList, file, Called}
-use Rattle.watch_rules.specs.Rules.{refusal, burstRefusal, listSound, unlessRefused}
+use Rattle.watch_rules.specs.Rules.{allowed}
 use Rattle.watch_rules.specs.Plain.{idle, after}
 use Rattle.watch_rules.specs.Rows.{Row, row, channels, levelsOf, shown, push, pushAt, changedRows, changedDepth, filedRows}
 use Rattle.watch_rules.specs.Record.{rows, recordOf, changedRecord, wellFormed, fresh, called, afterFrom}
@@ -36,7 +36,8 @@ use Rattle.watch_rules.proofs.Laws.{clash, and-left, and-right, and-bot
 use Rattle.watch_rules.proofs.Depth.{depth-high}
 use Rattle.watch_rules.proofs.Good.{levelsOk, rowFine, Good, good-fits, few-levels, ranged-levels}
 use Rattle.watch_rules.proofs.Encode.{rows-record, well-formed-record, read-record, Read}
-use Rattle.watch_rules.proofs.Calls.{called-record, refuse-later, first-watched}
+use Rattle.watch_rules.proofs.ListSound.{listSound, sound-passes}
+use Rattle.watch_rules.proofs.Calls.{called-record, first-watched}
 use Rattle.watch_rules.proofs.Steps.{channels-fine}
 use Rattle.watch_rules.proofs.Sequence.{after-more}
 use Rattle.watch_rules.proofs.Demand3.{linked}
@@ -60,7 +61,7 @@ made-more [] k a b = (b, tt)
 made-more (j ∷ ks) k a b = (a .0, made-more ks k (a .1) b)
 
 -- one more call
-extend : (d : ℕ) (rs : List Row) (k : Call) → Left d rs → CanBeMade k → refusal (shown d rs) k ≡ none → Left (changedDepth d k) (changedRows d rs k)
+extend : (d : ℕ) (rs : List Row) (k : Call) → Left d rs → CanBeMade k → allowed (shown d rs) k ≡ gives tt → Left (changedDepth d k) (changedRows d rs k)
 extend d rs k r b n =
     record {
       calls = r .calls ++ k ∷ [];
@@ -69,7 +70,7 @@ extend d rs k r b n =
           after-more fresh (r .calls) k
           ∙ ap (λ (w : Watch). called w k .watch) (r .leave)
           ∙ ap (λ (o : Called). o .watch) (called-record d rs k (left-good d rs r))
-          ∙ ap (λ (o : Option Refusal). unlessRefused o (recordOf d rs) (changedRecord d rs k)) n;
+          ∙ ap (λ (o : Told Unit). unlessRefused o (recordOf d rs) (changedRecord d rs k)) n;
     }
 
 -- ---- a burst for each level: the float that shows it, and any quality in range
@@ -128,8 +129,8 @@ module _ (d : ℕ) (rs : List Row) (c : ℕ) (qs : List Row) (ranged : channelIn
       let there : mem c (channels at) ≡ true = ap (mem c) (channels-append rs (row c pre ∷ qs)) ∙ mem-middle c (channels rs) (channels qs) in
       let apart : mem c (channels rs) ≡ false =
       distinct-middle c (channels rs) (channels qs) (ap distinct (sym (channels-append rs (row c pre ∷ qs))) ∙ left-good d at l .apart) in
-      let open-to : refusal (shown d at) (file c (burstFor x)) ≡ none =
-      refuse-later why.NotWatched (first-watched d at c ∙ there) (ap burstRefusal (burst-for x e)) in
+      let open-to : allowed (shown d at) (file c (burstFor x)) ≡ gives tt =
+      refuse-later why.NotWatched (first-watched d at c ∙ there) (ap acceptance (burst-for x e)) in
       let one : changedRows d at (file c (burstFor x)) ≡ with-levels (pre ++ x ∷ []) =
       ap (λ (t : Told BurstResult). filedRows d c t at) (burst-for x e)
       ∙ push-middle d x rs (row c pre) qs apart
@@ -201,7 +202,7 @@ bare-left d (r ∷ rs) g =
     let may : listSound (some c) l ≡ true =
     and-both (and-both fits oks) (and-both (and-right (not (mem c l)) (distinct l) (g .apart)) (none-is c l away)) in
     subst (Left d) (ap₂ (λ (a : List ℤ) (b : List Row). row c a ∷ b) (cond-same (eqb c c) []) (bare-levels c rs))
-    (extend d (row c [] ∷ []) (newList l) one (list-made l oks) (refuse-later why.ListFaulty may refl))
+    (extend d (row c [] ∷ []) (newList l) one (list-made l oks) (sound-passes (some c) l may _))
 
 good-left : (d : ℕ) (rs : List Row) → Good d rs → Left d rs
 good-left d rs g = fill-rows d [] rs (g .fine) (bare-left d rs g)

@@ -1,37 +1,39 @@
 -- The refusals in document 01's words. The rule's tests are those words, decided: a test that fails names the row of the table, and a row
 -- decides the tests.
-use Prim.Native.Nat.{ℕ, _<_}
+use Prim.Native.Nat.{ℕ, _≤_, _<_}
 use mathlib.Core.Path.{_≡_, refl, sym, ap, _∙_, subst}
 use mathlib.Core.Logic.{inl, inr}
-use mathlib.Core.Bool.{Bool, true, false, not, _&&_, _||_, or-true}
-use mathlib.Core.List.{List}
-use mathlib.Core.Option.{Option, none, some, Option·some-ne-none}
+use mathlib.Core.Bool.{Bool, true, false, _||_, or-true}
+use mathlib.Core.List.{List, []}
+use mathlib.Core.Option.{Option, none, some}
 use native.Mathlib.Omega.{arith}
 use lib.Dec.{leb}
 use lib.IntN.{ℤ, pos}
 use lib.Signed.{leZ, _<ℤ_, clashℤ}
-use lib.ListN.{length}
-use borrow.Author.Tests.{le-leb, lt-leb, leb-true, leb-false}
-use Rattle.refusal.specs.declared.Refusal.{Refusal}
+use borrow.Author.Tests.{le-leb, lt-leb, leb-false}
 use Rattle.refusal.specs.declared.Refusal.the-variants as why
-use Rattle.refusal.specs.Number.{numberOf}
-use Rattle.refusal.specs.Told.{Told, refused, gives}
+use Rattle.refusal.specs.declared.Reason.{Reason}
+use Rattle.refusal.specs.declared.Reason.the-variants.{Alone, At}
+use Rattle.refusal.specs.Number.{numberIn}
+use Rattle.refusal.specs.Told.{Told, refused, gives, accepted, provided, acceptance}
 use Rattle.refusal.proofs.OneToOne.{gives-refused}
+use Rattle.refusal.proofs.Provided.{same-reason, acceptance-refused, refuse-now, refuse-later, refused-by}
 use Rattle.readings_rules.specs.Channels.{channelInRange}
-use Rattle.readings_rules.specs.Burst.{BurstResult, burstOf}
+use Rattle.readings_rules.specs.Burst.{burstOf}
 use Rattle.readings_rules.proofs.Bursts.{burst-1}
-use Rattle.watch_rules.specs.Lists.{distinct, every, is}
-use Rattle.watch_rules.specs.Limits.{listLimit, hysteresisInRange, depthInRange}
-use Rattle.watch_rules.specs.Told.{Call, start, newList, move, file, ask, verdict, Given}
-use Rattle.watch_rules.specs.Rules.{watched, serves, listSound, refuseUnless, burstRefusal, refusal, answer, granted}
+use Rattle.watch_rules.specs.Lists.{is}
+use Rattle.watch_rules.specs.Limits.{hysteresisInRange, depthInRange}
+use Rattle.watch_rules.specs.Told.{Call, start, newList, move, file, ask, verdict}
+use Rattle.watch_rules.specs.Rules.{View, watched, serves, allowed, answer, granted}
 use Rattle.watch_rules.specs.Plain.{Plain, seen}
-use Rattle.watch_rules.specs.Refusals.{Watched, Faulty, tooLong, above, repeated, servingIn, Refuses, Accepted, hysteresisBelow, hysteresisAbove, depthBelow, depthAbove, startAbove, listFaulty, fileNotWatched, askNotWatched, moveNotListed, listIdle, verdictIdle, burstOutOfRange}
-use Rattle.watch_rules.proofs.Laws.{byCase, clash, and-left, and-right, and-both, not-is, or-true-right}
+use Rattle.watch_rules.specs.Refusals.{Watched, Refuses, Accepted, hysteresisBelow, hysteresisAbove, depthBelow, depthAbove, startAbove, listTooLong, listFaulty, fileNotWatched, askNotWatched, moveNotListed, listIdle, verdictIdle, burstOutOfRange}
+use Rattle.watch_rules.proofs.Laws.{byCase, clash, and-left, and-right, and-both, or-true-right}
 use Rattle.watch_rules.proofs.Depth.{depth-low, depth-high}
 use Rattle.watch_rules.proofs.Order.{le-yes, by-order}
-use Rattle.watch_rules.proofs.Calls.{refuse-now, refuse-later, refused-answer, granted-answer}
+use Rattle.watch_rules.proofs.Calls.{refused-answer, granted-answer}
 use Rattle.watch_rules.proofs.Answers.{in-range}
-use Rattle.watch_rules.proofs.Words.{distinct-times, repeat-found, every-found, every-times, is-some, some-is}
+use Rattle.watch_rules.proofs.Words.{is-some, some-is}
+use Rattle.watch_rules.proofs.Faults.{fault-within, fault-number, Judged, isLong, hasFault, isSound, judged, long-refused, fault-refused, sound-allowed}
 
 -- ---- the tests in the table's words
 
@@ -65,148 +67,134 @@ too-shallow d l = byCase (depthInRange d) (λ e. absurd (let k = depth-low d e i
 too-deep : (d : ℕ) → 31 < d → depthInRange d ≡ false
 too-deep d l = byCase (depthInRange d) (λ e. absurd (let k = depth-high d e in omega arith)) (λ e. e)
 
--- a list that may not be taken, and one that may
-module _ (p : Plain) (l : List ℕ) where
-  abbrev away : ℕ → Bool
-  away c = not (is (p .serving) c)
-
-  list-faulty : listSound (p .serving) l ≡ false → Faulty p l
-  list-faulty e =
-      byCase (leb (length l) listLimit)
-      (λ a. byCase (every channelInRange l)
-      (λ b. byCase (distinct l)
-      (λ x. byCase (every away l)
-      (λ y. clash (and-both (and-both a b) (and-both x y)) e)
-      (λ y. (let r = every-found away l y in servingIn (r .0) (r .1) (is-some (p .serving) (r .0) (not-false (is (p .serving) (r .0)) (r .2))))))
-      (λ x. (let r = repeat-found l x in repeated (r .0) (r .1))))
-      (λ b. (let r = every-found channelInRange l b in above (r .0) (r .1) (leb-false (r .0) 1087 (r .2)))))
-      (λ a. tooLong (leb-false (length l) listLimit a))
-    where
-      not-false : (b : Bool) → not b ≡ false → b ≡ true
-      not-false true e = refl
-      not-false false e = clash refl e
-
-  list-sound : listSound (p .serving) l ≡ true → ¬ (Faulty p l)
-  list-sound e f = go f
-    where
-      fits : (leb (length l) listLimit && every channelInRange l) ≡ true
-      fits = and-left (leb (length l) listLimit && every channelInRange l) (distinct l && every away l) e
-
-      free : (distinct l && every away l) ≡ true
-      free = and-right (leb (length l) listLimit && every channelInRange l) (distinct l && every away l) e
-
-      go : ¬ (Faulty p l)
-      go (tooLong h) = let n = leb-true (length l) listLimit (and-left (leb (length l) listLimit) (every channelInRange l) fits) in omega arith
-      go (above c t h) =
-          let n = leb-true c 1087 (every-times channelInRange l (and-right (leb (length l) listLimit) (every channelInRange l) fits) c t) in
-          omega arith
-      go (repeated c t) = let n = distinct-times l (and-left (distinct l) (every away l) free) c in omega arith
-      go (servingIn c t s) =
-          clash (some-is (p .serving) c s) (not-is (is (p .serving) c) (every-times away l (and-right (distinct l) (every away l) free) c t))
-
 -- ---- from a refusal to its row
 
-refused-by {ℓ} : {P : Type ℓ} {r : Refusal} (b : Bool) (x : Refusal) (o : Option Refusal) → refuseUnless b x o ≡ some r
-    → (b ≡ false → x ≡ r → P) → (b ≡ true → o ≡ some r → P) → P
-refused-by true x o e f g = g refl e
-refused-by false x o e f g = f refl (cc)
-
-no-more {ℓ} : {P : Type ℓ} {r : Refusal} → _≡_ {A = Option Refusal} none (some r) → P
-no-more {r = r} e = absurd (Option·some-ne-none r (sym e))
-
-burst-row {ℓ} : {P : Type ℓ} {r : Refusal} (t : Told BurstResult) → burstRefusal t ≡ some r
-    → ((n : ℕ) → t ≡ refused n → why.ReadingOutOfRange ≡ r → P) → P
-burst-row (gives b) e f = no-more e
-burst-row (refused n) e f = f n refl (cc)
-
 module _ (p : Plain) where
-  -- the number of a refusal that is known
-  known : {k : Call} {x r : Refusal} → x ≡ r → Refuses p k (numberOf x) → Refuses p k (numberOf r)
-  known {k} q row = subst (λ (y : Refusal). Refuses p k (numberOf y)) q row
+  -- the row of a reason that is known
+  known : {k : Call} {m n : Reason} → m ≡ n → Refuses p k m → Refuses p k n
+  known {k} q row = subst (Refuses p k) q row
 
-  row-of : (k : Call) (r : Refusal) → refusal (seen p) k ≡ some r → Refuses p k (numberOf r)
-  row-of (start c d) r e =
-      refused-by (depthInRange d) why.ParameterOutOfRange (refuseUnless (channelInRange c) why.ChannelOutOfRange none) e
+  idle-row : (k : Call) {n : Reason} → provided (serves (p .serving)) why.NotWatched accepted ≡ refused n
+      → (p .serving ≡ none → Refuses p k (Alone 6)) → Refuses p k n
+  idle-row k e row =
+      refused-by (serves (p .serving)) why.NotWatched accepted e (λ s q. known q (row (serves-none (p .serving) s))) (λ s q. absurd (gives-refused q))
+
+  list-row : (l : List ℕ) (n : Reason) → allowed (seen p) (newList l) ≡ refused n → Judged p l → Refuses p (newList l) n
+  list-row l n e (isLong h) = known (same-reason (long-refused p l _ h) e) (listTooLong l h)
+  list-row l n e (hasFault place m h f) = known (same-reason (fault-refused p l _ h f) e) (listFaulty l place m h f)
+  list-row l n e (isSound x) = idle-row (newList l) (sym (sound-allowed p l _ x) ∙ e) (listIdle l x)
+
+  row-of : (k : Call) (n : Reason) → allowed (seen p) k ≡ refused n → Refuses p k n
+  row-of (start c d) n e =
+      refused-by (depthInRange d) why.ParameterOutOfRange (provided (channelInRange c) why.ChannelOutOfRange accepted) e
       (λ b q. byCase (leb 5 d)
       (λ l. byCase (leb d 31) (λ m. clash (and-both l m) b) (λ m. known q (depthAbove c d (leb-false d 31 m))))
       (λ l. known q (depthBelow c d (leb-false 5 d l))))
-      (λ b z. refused-by (channelInRange c) why.ChannelOutOfRange none z
+      (λ b z. refused-by (channelInRange c) why.ChannelOutOfRange accepted z
       (λ a q. known q (startAbove c d (depth-low d b) (depth-high d b) (leb-false c 1087 a)))
-      (λ a q. no-more q))
-  row-of (newList l) r e =
-      refused-by (listSound (p .serving) l) why.ListFaulty (refuseUnless (serves (p .serving)) why.NotWatched none) e
-      (λ b q. known q (listFaulty l (list-faulty p l b)))
-      (λ b z. refused-by (serves (p .serving)) why.NotWatched none z
-      (λ s q. known q (listIdle l (list-sound p l b) (serves-none (p .serving) s)))
-      (λ s q. no-more q))
-  row-of (move c) r e =
-      refused-by (p .neighbour c) why.NotWatched none e (λ b q. known q (moveNotListed c b)) (λ b q. no-more q)
-  row-of (file c b) r e =
-      refused-by (watched (seen p) c) why.NotWatched (burstRefusal (burstOf b)) e
+      (λ a q. absurd (gives-refused q)))
+  row-of (newList l) n e = list-row l n e (judged p l)
+  row-of (move c) n e =
+      refused-by (p .neighbour c) why.NotWatched accepted e (λ b q. known q (moveNotListed c b)) (λ b q. absurd (gives-refused q))
+  row-of (file c b) n e =
+      refused-by (watched (seen p) c) why.NotWatched (acceptance (burstOf b)) e
       (λ x q. known q (fileNotWatched c b (λ w. clash (yes-watched p c w) x)))
-      (λ x z. burst-row (burstOf b) z (λ n t q. known q (burstOutOfRange c b (watched-yes p c x) (t ∙ ap refused (burst-1 b n t)))))
-  row-of (ask c) r e =
-      refused-by (watched (seen p) c) why.NotWatched none e (λ x q. known q (askNotWatched c (λ w. clash (yes-watched p c w) x))) (λ b q. no-more q)
-  row-of (verdict h) r e =
-      refused-by (hysteresisInRange h) why.ParameterOutOfRange (refuseUnless (serves (p .serving)) why.NotWatched none) e
+      (λ x z.
+      let t : burstOf b ≡ refused n = acceptance-refused (burstOf b) z in
+      let one : n ≡ Alone 1 = burst-1 b n t in
+      known (sym one) (burstOutOfRange c b (watched-yes p c x) (t ∙ ap refused one)))
+  row-of (ask c) n e =
+      refused-by (watched (seen p) c) why.NotWatched accepted e
+      (λ x q. known q (askNotWatched c (λ w. clash (yes-watched p c w) x)))
+      (λ b q. absurd (gives-refused q))
+  row-of (verdict h) n e =
+      refused-by (hysteresisInRange h) why.ParameterOutOfRange (provided (serves (p .serving)) why.NotWatched accepted) e
       (λ b q. by-order h (pos 0)
       (λ l. known q (hysteresisBelow h l))
       (λ l. by-order (pos 6000) h (λ m. known q (hysteresisAbove h m)) (λ m. clash (in-range h l m) b)))
-      (λ b z. refused-by (serves (p .serving)) why.NotWatched none z
-      (λ s q. known q (verdictIdle h
+      (λ b z. idle-row (verdict h) z
+      (verdictIdle h
       (le-yes (pos 0) h (and-left (leZ (pos 0) h) (leZ h (pos 6000)) b))
-      (le-yes h (pos 6000) (and-right (leZ (pos 0) h) (leZ h (pos 6000)) b))
-      (serves-none (p .serving) s)))
-      (λ s q. no-more q))
+      (le-yes h (pos 6000) (and-right (leZ (pos 0) h) (leZ h (pos 6000)) b))))
 
   -- ---- from a row to the answer
 
-  pub from-row : {k : Call} {n : ℕ} → Refuses p k n → answer (seen p) k ≡ refused n
-  from-row (hysteresisBelow h l) = refused-answer (seen p) (verdict h) why.ParameterOutOfRange (refuse-now why.ParameterOutOfRange _ (too-low h l))
-  from-row (hysteresisAbove h l) = refused-answer (seen p) (verdict h) why.ParameterOutOfRange (refuse-now why.ParameterOutOfRange _ (too-high h l))
-  from-row (depthBelow c d l) = refused-answer (seen p) (start c d) why.ParameterOutOfRange (refuse-now why.ParameterOutOfRange _ (too-shallow d l))
-  from-row (depthAbove c d l) = refused-answer (seen p) (start c d) why.ParameterOutOfRange (refuse-now why.ParameterOutOfRange _ (too-deep d l))
-  from-row (startAbove c d a b l) =
-      refused-answer (seen p) (start c d) why.ChannelOutOfRange
-      (refuse-later why.ParameterOutOfRange (and-both (le-leb 5 d a) (le-leb d 31 b)) (refuse-now why.ChannelOutOfRange _ (lt-leb c 1087 l)))
-  from-row (listFaulty l f) = refused-answer (seen p) (newList l) why.ListFaulty (refuse-now why.ListFaulty _ (not-sound f))
-    where
-      not-sound : Faulty p l → listSound (p .serving) l ≡ false
-      not-sound f = byCase (listSound (p .serving) l) (λ e. absurd (list-sound p l e f)) (λ e. e)
-  from-row (fileNotWatched c b n) = refused-answer (seen p) (file c b) why.NotWatched (refuse-now why.NotWatched _ (no-watched p c n))
-  from-row (askNotWatched c n) = refused-answer (seen p) (ask c) why.NotWatched (refuse-now why.NotWatched _ (no-watched p c n))
-  from-row (moveNotListed c e) = refused-answer (seen p) (move c) why.NotWatched (refuse-now why.NotWatched _ e)
-  from-row (listIdle l n e) =
-      refused-answer (seen p) (newList l) why.NotWatched
-      (refuse-later why.ListFaulty (sound n) (refuse-now why.NotWatched none (ap serves e)))
-    where
-      sound : ¬ (Faulty p l) → listSound (p .serving) l ≡ true
-      sound n = byCase (listSound (p .serving) l) (λ e. e) (λ e. absurd (n (list-faulty p l e)))
-  from-row (verdictIdle h a b e) =
-      refused-answer (seen p) (verdict h) why.NotWatched
-      (refuse-later why.ParameterOutOfRange (in-range h a b) (refuse-now why.NotWatched none (ap serves e)))
-  from-row (burstOutOfRange c b w e) =
-      refused-answer (seen p) (file c b) why.ReadingOutOfRange (refuse-later why.NotWatched (yes-watched p c w) (ap burstRefusal e))
+  from-row-allowed : {k : Call} {n : Reason} → Refuses p k n → allowed (seen p) k ≡ refused n
+  from-row-allowed (hysteresisBelow h l) = refuse-now why.ParameterOutOfRange _ (too-low h l)
+  from-row-allowed (hysteresisAbove h l) = refuse-now why.ParameterOutOfRange _ (too-high h l)
+  from-row-allowed (depthBelow c d l) = refuse-now why.ParameterOutOfRange _ (too-shallow d l)
+  from-row-allowed (depthAbove c d l) = refuse-now why.ParameterOutOfRange _ (too-deep d l)
+  from-row-allowed (startAbove c d a b l) =
+      refuse-later why.ParameterOutOfRange (and-both (le-leb 5 d a) (le-leb d 31 b)) (refuse-now why.ChannelOutOfRange _ (lt-leb c 1087 l))
+  from-row-allowed (listTooLong l h) = long-refused p l _ h
+  from-row-allowed (listFaulty l place n h f) = fault-refused p l _ h f
+  from-row-allowed (fileNotWatched c b n) = refuse-now why.NotWatched _ (no-watched p c n)
+  from-row-allowed (askNotWatched c n) = refuse-now why.NotWatched _ (no-watched p c n)
+  from-row-allowed (moveNotListed c e) = refuse-now why.NotWatched _ e
+  from-row-allowed (listIdle l n e) = sound-allowed p l _ n ∙ refuse-now why.NotWatched _ (ap serves e)
+  from-row-allowed (verdictIdle h a b e) =
+      refuse-later why.ParameterOutOfRange (in-range h a b) (refuse-now why.NotWatched _ (ap serves e))
+  from-row-allowed (burstOutOfRange c b w e) = refuse-later why.NotWatched (yes-watched p c w) (ap acceptance e)
+
+  pub from-row : {k : Call} {n : Reason} → Refuses p k n → answer (seen p) k ≡ refused n
+  from-row {k} {n} row = refused-answer (seen p) k n (from-row-allowed row)
 
   -- ---- both ways
 
-  pub to-row : (k : Call) (n : ℕ) → answer (seen p) k ≡ refused n → Refuses p k n
-  to-row k n e = go (refusal (seen p) k) refl
+  pub to-row : (k : Call) (n : Reason) → answer (seen p) k ≡ refused n → Refuses p k n
+  to-row k n e = go (allowed (seen p) k) refl
     where
-      go : (o : Option Refusal) → refusal (seen p) k ≡ o → Refuses p k n
-      go none q = absurd (gives-refused (sym (granted-answer (seen p) k q) ∙ e))
-      go (some r) q =
-          let z : _≡_ {A = Told Given} (refused (numberOf r)) (refused n) = sym (refused-answer (seen p) k r q) ∙ e in
-          let m : numberOf r ≡ n = cc in
-          subst (Refuses p k) m (row-of k r q)
+      go : (o : Told Unit) → allowed (seen p) k ≡ o → Refuses p k n
+      go (gives u) q = absurd (gives-refused (sym (granted-answer (seen p) k q) ∙ e))
+      go (refused m) q = known (same-reason (refused-answer (seen p) k m q) e) (row-of k m q)
 
   -- where no row fits, nothing refuses the call, and it is granted
-  pub no-refusal : (k : Call) → Accepted p k → refusal (seen p) k ≡ none
-  no-refusal k none-fits = go (refusal (seen p) k) refl
+  pub no-refusal : (k : Call) → Accepted p k → allowed (seen p) k ≡ gives tt
+  no-refusal k none-fits = go (allowed (seen p) k) refl
     where
-      go : (o : Option Refusal) → refusal (seen p) k ≡ o → refusal (seen p) k ≡ none
-      go none q = q
-      go (some r) q = absurd (none-fits (numberOf r) (row-of k r q))
+      go : (o : Told Unit) → allowed (seen p) k ≡ o → allowed (seen p) k ≡ gives tt
+      go (gives u) q = q
+      go (refused n) q = absurd (none-fits n (row-of k n q))
 
   pub no-row : (k : Call) → Accepted p k → answer (seen p) k ≡ gives (granted (seen p) k)
   no-row k none-fits = granted-answer (seen p) k (no-refusal k none-fits)
+
+-- ---- the numbers and places of the table
+
+-- none is 0, and none is 9
+pub row-number : {p : Plain} {k : Call} {n : Reason} → Refuses p k n → (1 ≤ numberIn n) × (¬ (numberIn n ≡ 9))
+row-number (hysteresisBelow h l) = (omega arith, λ e. omega arith)
+row-number (hysteresisAbove h l) = (omega arith, λ e. omega arith)
+row-number (depthBelow c d l) = (omega arith, λ e. omega arith)
+row-number (depthAbove c d l) = (omega arith, λ e. omega arith)
+row-number (startAbove c d a b l) = (omega arith, λ e. omega arith)
+row-number (listTooLong l h) = (omega arith, λ e. omega arith)
+row-number (listFaulty l place n h f) = let k = fault-number (f .fault) .0 in (omega arith, λ e. omega arith)
+row-number (fileNotWatched c b w) = (omega arith, λ e. omega arith)
+row-number (askNotWatched c w) = (omega arith, λ e. omega arith)
+row-number (moveNotListed c q) = (omega arith, λ e. omega arith)
+row-number (listIdle l f q) = (omega arith, λ e. omega arith)
+row-number (verdictIdle h a b q) = (omega arith, λ e. omega arith)
+row-number (burstOutOfRange c b w q) = (omega arith, λ e. omega arith)
+
+-- a place is one of the six of a list
+pub place-row : {p : Plain} {k : Call} {n place : ℕ} → Refuses p k (At n place) → (place < 6) × ((l : List ℕ) × (k ≡ newList l))
+place-row (listFaulty l place n h f) = (omega (arith, h, fault-within (f .fault)), (l, refl))
+
+-- the row of a call that is refused over what a watch shows
+abbrev shownBy : View → Plain
+shownBy v = record { depth = 0; serving = v .serving; neighbour = v .neighbour; levels = λ c. [] }
+
+view-row : (v : View) (k : Call) {n : Reason} → allowed v k ≡ refused n → Refuses (shownBy v) k n
+view-row v (start c d) e = row-of (shownBy v) (start c d) _ e
+view-row v (newList l) e = row-of (shownBy v) (newList l) _ e
+view-row v (move c) e = row-of (shownBy v) (move c) _ e
+view-row v (file c b) e = row-of (shownBy v) (file c b) _ e
+view-row v (ask c) e = row-of (shownBy v) (ask c) _ e
+view-row v (verdict h) e = row-of (shownBy v) (verdict h) _ e
+
+pub told-number : (v : View) (k : Call) {n : Reason} → allowed v k ≡ refused n → 1 ≤ numberIn n
+told-number v k e = row-number (view-row v k e) .0
+
+pub told-place : (v : View) (k : Call) {n place : ℕ} → allowed v k ≡ refused (At n place) → (place < 6) × ((l : List ℕ) × (k ≡ newList l))
+told-place v k e = place-row (view-row v k e)

@@ -1,20 +1,19 @@
--- Lists that have each channel as often as each other come from each other by swaps of neighbours; so every test that a swap does not
--- change is the same of both.
+-- Lists that have each channel as often as each other come from each other by swaps of neighbours, so they are equally long. All else that is
+-- asked of a list goes by how often a channel is in it.
 use Prim.Native.Nat.{ℕ, suc, _<_}
-use mathlib.Core.Path.{_≡_, refl, sym, ap, ap₂, _∙_}
-use mathlib.Core.Bool.{Bool, true, false, not, cond, _&&_, _||_, and-assoc, and-comm, or-assoc, or-comm}
+use mathlib.Core.Path.{_≡_, refl, sym, ap, subst, _∙_}
+use mathlib.Core.Bool.{Bool, true, false, cond}
 use mathlib.Core.List.{List, [], _∷_}
-use mathlib.Core.Option.{Option}
 use native.Mathlib.Omega.{arith}
-use lib.Dec.{eqb, leb}
+use lib.Dec.{eqb}
 use lib.ListN.{length}
 use borrow.Author.Tests.{eqb-true, eq-eqb}
-use Rattle.watch_rules.specs.Lists.{mem, timesIn, distinct, every, is}
-use Rattle.readings_rules.specs.Channels.{channelInRange}
-use Rattle.watch_rules.specs.Limits.{listLimit}
-use Rattle.watch_rules.specs.Rules.{listSound}
+use Rattle.watch_rules.specs.Lists.{mem, timesIn}
+use Rattle.watch_rules.specs.Plain.{Plain}
+use Rattle.watch_rules.specs.Refusals.{Faulty, tooLong, above, repeated, servingIn}
 use Rattle.watch_rules.specs.Claims.{Reordered}
-use Rattle.watch_rules.proofs.Laws.{byCase, eqb-sym}
+use Rattle.watch_rules.proofs.Laws.{byCase, clash}
+use Rattle.watch_rules.proofs.Words.{mem-times, times-mem}
 
 -- ---- from counts to swaps
 
@@ -74,52 +73,32 @@ reordered-swaps (c ∷ l) m r =
     let less : Reordered l (without c m) = λ d. times-cancel c d l (without c m) (r d ∙ sym (times-swaps front d)) in
     both (keep c (reordered-swaps l (without c m) less)) front
 
--- ---- what swaps do not change
-
-every-swaps : (f : ℕ → Bool) {l m : List ℕ} → Swaps l m → every f l ≡ every f m
-every-swaps f done = refl
-every-swaps f (keep c r) = ap (λ (b : Bool). f c && b) (every-swaps f r)
-every-swaps f (swap c d l) =
-    sym (and-assoc (f c) (f d) (every f l)) ∙ ap (λ (b : Bool). b && every f l) (and-comm (f c) (f d)) ∙ and-assoc (f d) (f c) (every f l)
-every-swaps f (both r s) = every-swaps f r ∙ every-swaps f s
-
-mem-swaps : (a : ℕ) {l m : List ℕ} → Swaps l m → mem a l ≡ mem a m
-mem-swaps a done = refl
-mem-swaps a (keep c r) = ap (λ (b : Bool). eqb c a || b) (mem-swaps a r)
-mem-swaps a (swap c d l) =
-    sym (or-assoc (eqb c a) (eqb d a) (mem a l)) ∙ ap (λ (b : Bool). b || mem a l) (or-comm (eqb c a) (eqb d a)) ∙ or-assoc (eqb d a) (eqb c a) (mem a l)
-mem-swaps a (both r s) = mem-swaps a r ∙ mem-swaps a s
-
 length-swaps : {l m : List ℕ} → Swaps l m → length l ≡ length m
 length-swaps done = refl
 length-swaps (keep c r) = ap suc (length-swaps r)
 length-swaps (swap c d l) = refl
 length-swaps (both r s) = length-swaps r ∙ length-swaps s
 
-apart-swap : (x y p q r : Bool) → x ≡ y → (not (x || p) && (not q && r)) ≡ (not (y || q) && (not p && r))
-apart-swap x y p q r e = ap (λ (b : Bool). not (b || p) && (not q && r)) e ∙ go y p q
-  where
-    go : (y p q : Bool) → (not (y || p) && (not q && r)) ≡ (not (y || q) && (not p && r))
-    go true p q = refl
-    go false true true = refl
-    go false true false = refl
-    go false false true = refl
-    go false false false = refl
-
-distinct-swaps : {l m : List ℕ} → Swaps l m → distinct l ≡ distinct m
-distinct-swaps done = refl
-distinct-swaps (keep c r) = ap₂ (λ (a b : Bool). not a && b) (mem-swaps c r) (distinct-swaps r)
-distinct-swaps (swap c d l) = apart-swap (eqb d c) (eqb c d) (mem c l) (mem d l) (distinct l) (eqb-sym d c)
-distinct-swaps (both r s) = distinct-swaps r ∙ distinct-swaps s
-
 -- ---- what the watch asks of a list
 
-pub mem-reordered : (l m : List ℕ) → Reordered l m → (c : ℕ) → mem c l ≡ mem c m
-mem-reordered l m r c = mem-swaps c (reordered-swaps l m r)
+module _ (l m : List ℕ) (r : Reordered l m) where
+  pub length-reordered : length l ≡ length m
+  length-reordered = length-swaps (reordered-swaps l m r)
 
-pub sound-reordered : (s : Option ℕ) (l m : List ℕ) → Reordered l m → listSound s l ≡ listSound s m
-sound-reordered s l m r =
-    let w : Swaps l m = reordered-swaps l m r in
-    ap₂ _&&_
-    (ap₂ _&&_ (ap (λ (n : ℕ). leb n listLimit) (length-swaps w)) (every-swaps channelInRange w))
-    (ap₂ _&&_ (distinct-swaps w) (every-swaps (λ c. not (is s c)) w))
+  as-often : (c n : ℕ) → n < timesIn c l → n < timesIn c m
+  as-often c n h = subst (λ (k : ℕ). n < k) (r c) h
+
+  pub faulty-reordered : (p : Plain) → Faulty p l → Faulty p m
+  faulty-reordered p (tooLong h) = tooLong (subst (λ (k : ℕ). 6 < k) length-reordered h)
+  faulty-reordered p (above c t h) = above c (as-often c 0 t) h
+  faulty-reordered p (repeated c t) = repeated c (as-often c 1 t)
+  faulty-reordered p (servingIn c t s) = servingIn c (as-often c 0 t) s
+
+  still-in : (c : ℕ) → mem c l ≡ true → mem c m ≡ true
+  still-in c e = times-mem c m (as-often c 0 (mem-times c l e))
+
+pub mem-reordered : (l m : List ℕ) → Reordered l m → (c : ℕ) → mem c l ≡ mem c m
+mem-reordered l m r c =
+    byCase (mem c l)
+    (λ e. e ∙ sym (still-in l m r c e))
+    (λ e. byCase (mem c m) (λ f. clash (still-in m l (λ (d : ℕ). sym (r d)) c f) e) (λ f. e ∙ sym f))

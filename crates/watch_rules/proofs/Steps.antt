@@ -4,14 +4,14 @@ use Prim.Native.Nat.{ℕ}
 use mathlib.Core.Path.{_≡_, refl, sym, ap, _∙_}
 use mathlib.Core.Bool.{Bool, true, false, not, cond, _&&_, _||_, false≢true, and-false}
 use mathlib.Core.List.{List, [], _∷_, _++_}
-use mathlib.Core.Option.{none}
 use native.Mathlib.Omega.{arith}
 use lib.Dec.{eqb, leb, leb·zero}
 use lib.IntN.{ℤ}
 use lib.ListN.{length, length-map}
 use borrow.Author.Tests.{eqb-true, eq-eqb, ne-eqb, le-leb, leb-true}
 use Rattle.refusal.specs.declared.Refusal.the-variants as why
-use Rattle.refusal.specs.Told.{Told, refused, gives}
+use Rattle.refusal.specs.Told.{Told, refused, gives, acceptance}
+use Rattle.refusal.proofs.Provided.{passed-test, passed-rest}
 use Rattle.readings_rules.specs.Ranges.{levelInRange}
 use Rattle.readings_rules.specs.Burst.{BurstResult, heard, missed, burstOf, InRange}
 use Rattle.readings_rules.proofs.Bursts.{burst-in-range}
@@ -19,13 +19,14 @@ use Rattle.watch_rules.specs.Lists.{mem, distinct, every, is, lastN}
 use Rattle.readings_rules.specs.Channels.{channelInRange}
 use Rattle.watch_rules.specs.Limits.{listLimit, depthInRange, room}
 use Rattle.watch_rules.specs.Told.{Call, start, newList, move, file, ask, verdict}
-use Rattle.watch_rules.specs.Rules.{View, watched, serves, refusal, listSound, burstRefusal}
+use Rattle.watch_rules.specs.Rules.{View, watched, serves, allowed}
 use Rattle.watch_rules.specs.Plain.{Plain, seen, change, afterFile, underWatch}
 use Rattle.watch_rules.specs.Rows.{Row, channels, levelsOf, first, rest, shown, push, pushAt, relisted, inPlaceOf, changedRows, filedRows}
 use Rattle.watch_rules.specs.Record.{depthFine}
 use Rattle.watch_rules.proofs.Laws.{byCase, clash, and-left, and-right, and-both, not-is, or-true-right, cond-same, cond-map, eqb-sym, last-last, last-none, length-lastN, every-last, every-snoc, view-path, levels-none, channels-push, first-push, rest-push, levels-push}
 use Rattle.watch_rules.proofs.Good.{levelsOk, rowFine, Good, good-fits, ranged-levels}
-use Rattle.watch_rules.proofs.Calls.{passed-test, passed-rest, first-watched}
+use Rattle.watch_rules.proofs.ListSound.{listSound, passes-sound}
+use Rattle.watch_rules.proofs.Calls.{first-watched}
 use Rattle.watch_rules.proofs.Relist.{rest-relisted, levels-relisted, good-relisted, length-inPlace, mem-inPlace, every-inPlace, distinct-inPlace}
 
 pub record Step (rs : List Row) (p : Plain) : Type 0 where
@@ -216,20 +217,19 @@ step-move (r ∷ rs) p c s e =
 
 -- ---- every accepted call
 
-pub step : (rs : List Row) (p : Plain) (k : Call) → Step rs p → refusal (shown (p .depth) rs) k ≡ none
+pub step : (rs : List Row) (p : Plain) (k : Call) → Step rs p → allowed (shown (p .depth) rs) k ≡ gives tt
     → Step (changedRows (p .depth) rs k) (change p k)
 step rs p (start c d) s e =
     step-start rs p c d
     (passed-test why.ParameterOutOfRange (depthInRange d) _ e)
-    (passed-test why.ChannelOutOfRange (channelInRange c) none (passed-rest why.ParameterOutOfRange (depthInRange d) _ e))
+    (passed-test why.ChannelOutOfRange (channelInRange c) _ (passed-rest why.ParameterOutOfRange (depthInRange d) _ e))
 step rs p (newList l) s e =
-    step-list rs p l s
-    (passed-test why.ListFaulty (listSound (first rs) l) _ e)
-    (passed-test why.NotWatched (serves (first rs)) none (passed-rest why.ListFaulty (listSound (first rs) l) _ e))
-step rs p (move c) s e = step-move rs p c s (passed-test why.NotWatched (mem c (channels (rest rs))) none e)
+    let passed = passes-sound (first rs) l _ e in
+    step-list rs p l s (passed .0) (passed-test why.NotWatched (serves (first rs)) _ (passed .1))
+step rs p (move c) s e = step-move rs p c s (passed-test why.NotWatched (mem c (channels (rest rs))) _ e)
 step rs p (file c b) s e =
     step-file rs p c (burstOf b) s
-    (sym (first-watched (p .depth) rs c) ∙ passed-test why.NotWatched (watched (shown (p .depth) rs) c) (burstRefusal (burstOf b)) e)
+    (sym (first-watched (p .depth) rs c) ∙ passed-test why.NotWatched (watched (shown (p .depth) rs) c) (acceptance (burstOf b)) e)
     (burst-in-range b)
 step rs p (ask c) s e = s
 step rs p (verdict h) s e = s

@@ -10,7 +10,7 @@ use Rattle.watch_rules.specs.Claims.{AnswersTold, AnswersDiffer}
 
 pub answersTold : AnswersTold
 answersTold =
-    record { accepts = refl; asked = λ count mean. refl; waits = refl; stays = refl; moves = λ c. refl; number = λ why. refl }
+    record { accepts = refl; asked = λ count mean. refl; waits = refl; stays = refl; moves = λ c. refl; reason = λ why. refl }
 
 answerOf : Told Given → Answer
 answerOf (refused n) = Refused (refusalOf n)

@@ -1,15 +1,13 @@
 -- An ask, a verdict or a refusal leaves the record as it was: a refusal hands back the very record, and a well-formed record is that of its
 -- rows.
-use Prim.Native.Nat.{ℕ}
 use mathlib.Core.Path.{_≡_, refl, sym, ap, _∙_}
 use mathlib.Core.Bool.{true}
-use mathlib.Core.Option.{Option, none, some}
-use Rattle.refusal.specs.declared.Refusal.{Refusal}
-use Rattle.refusal.specs.Told.{refused}
+use Rattle.refusal.specs.declared.Reason.{Reason}
+use Rattle.refusal.specs.Told.{Told, refused, gives}
 use Rattle.refusal.proofs.OneToOne.{gives-refused}
 use Rattle.watch_rules.specs.declared.Watch.{Watch}
 use Rattle.watch_rules.specs.Told.{Call, ask, verdict, Called}
-use Rattle.watch_rules.specs.Rules.{refusal}
+use Rattle.watch_rules.specs.Rules.{allowed}
 use Rattle.watch_rules.specs.Record.{rows, viewOf, recordOf, changedRecord, wellFormed, called}
 use Rattle.watch_rules.specs.Claims.{Unchanged}
 use Rattle.watch_rules.proofs.Laws.{byCase}
@@ -26,23 +24,23 @@ module _ (w : Watch) (k : Call) where
   rows-kept : changedRecord (w .depth) (rows w) k ≡ recordOf (w .depth) (rows w) → called w k .watch ≡ w
   rows-kept same =
       byCase (wellFormed w)
-      (λ f. go f (refusal (viewOf w) k) refl)
+      (λ f. go f (allowed (viewOf w) k) refl)
       (λ f. ap watchOf (called-unformed w k f))
     where
-      go : wellFormed w ≡ true → (o : Option Refusal) → refusal (viewOf w) k ≡ o → called w k .watch ≡ w
-      go f none e = ap watchOf (called-granted w k f e) ∙ same ∙ read-record w f .back
-      go f (some r) e = ap watchOf (called-refused w k f r e)
+      go : wellFormed w ≡ true → (o : Told Unit) → allowed (viewOf w) k ≡ o → called w k .watch ≡ w
+      go f (gives u) e = ap watchOf (called-granted w k f e) ∙ same ∙ read-record w f .back
+      go f (refused n) e = ap watchOf (called-refused w k f e)
 
   -- a refused call
-  refusal-keeps : (n : ℕ) → called w k .answer ≡ refused n → called w k .watch ≡ w
+  refusal-keeps : (n : Reason) → called w k .answer ≡ refused n → called w k .watch ≡ w
   refusal-keeps n told =
       byCase (wellFormed w)
-      (λ f. go f (refusal (viewOf w) k) refl)
+      (λ f. go f (allowed (viewOf w) k) refl)
       (λ f. ap watchOf (called-unformed w k f))
     where
-      go : wellFormed w ≡ true → (o : Option Refusal) → refusal (viewOf w) k ≡ o → called w k .watch ≡ w
-      go f none e = absurd (gives-refused (sym (ap (λ (o : Called). o .answer) (called-granted w k f e)) ∙ told))
-      go f (some r) e = ap watchOf (called-refused w k f r e)
+      go : wellFormed w ≡ true → (o : Told Unit) → allowed (viewOf w) k ≡ o → called w k .watch ≡ w
+      go f (gives u) e = absurd (gives-refused (sym (ap (λ (o : Called). o .answer) (called-granted w k f e)) ∙ told))
+      go f (refused n) e = ap watchOf (called-refused w k f e)
 
 pub unchanged : Unchanged
 unchanged w =

@@ -13,6 +13,7 @@ use lib.ListN.{length}
 use borrow.Author.Tests.{eq-eqb, le-leb, lt-leb, leb-true, leb-false}
 use Rattle.refusal.specs.declared.Refusal.the-variants as why
 use Rattle.refusal.specs.Told.{Told, gives}
+use Rattle.refusal.proofs.Provided.{refuse-later}
 use Rattle.watch_rules.specs.declared.Watch.{Watch}
 use Rattle.watch_rules.specs.Lists.{every, is, sum}
 use Rattle.readings_rules.specs.Channels.{channelHighest, channelInRange}
@@ -28,7 +29,7 @@ use Rattle.watch_rules.proofs.Order.{lt-yes, yes-lt, ≤ℤ-antisymm}
 use Rattle.watch_rules.proofs.Best.{IsBest, best-is}
 use Rattle.watch_rules.proofs.Good.{rowFine}
 use Rattle.watch_rules.proofs.Encode.{read-record}
-use Rattle.watch_rules.proofs.Calls.{refuse-later, granted-answer}
+use Rattle.watch_rules.proofs.Calls.{granted-answer}
 use Rattle.watch_rules.proofs.Steps.{channels-fine, every-mem}
 use Rattle.watch_rules.proofs.Demand3.{linked, shows, answered-next}
 use Rattle.watch_rules.proofs.Reach.{left-formed}

@@ -27,7 +27,7 @@ times-none : (c : ℕ) (l : List ℕ) → mem c l ≡ false → timesIn c l ≡ 
 times-none c [] e = refl
 times-none c (d ∷ l) e = rw (or-false-left (eqb d c) (mem c l) e) (times-none c l (or-false-right (eqb d c) (mem c l) e))
 
-times-more : (c d : ℕ) (l : List ℕ) → timesIn c l ≤ timesIn c (d ∷ l)
+pub times-more : (c d : ℕ) (l : List ℕ) → timesIn c l ≤ timesIn c (d ∷ l)
 times-more c d l = byCase (eqb d c) (λ q. rw q (omega arith)) (λ q. rw q (omega arith))
 
 times-first : (c : ℕ) (l : List ℕ) → timesIn c (c ∷ l) ≡ suc (timesIn c l)

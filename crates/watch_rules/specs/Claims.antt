@@ -1,19 +1,21 @@
 -- Demand 3, and what else is claimed of the watch. Proved in `proofs/`, each under its name with a small first letter.
 use Prim.Native.Nat.{ℕ, _+_, _≤_, _<_, min}
 use mathlib.Core.Path.{_≡_}
-use mathlib.Core.Logic.{_↔_}
+use mathlib.Core.Logic.{_⊎_, _↔_}
 use mathlib.Core.Bool.{Bool, true, false, cond}
 use mathlib.Core.List.{List, [], _∷_, _++_, List·Memᴰ}
 use mathlib.Core.Option.{Option, none, some}
 use lib.Dec.{T, eqb}
 use lib.IntN.{ℤ, pos, _+ℤ_, _*ℤ_}
 use lib.Signed.{_≤ℤ_, _<ℤ_}
-use lib.ListN.{length, take}
+use lib.ListN.{length, take, getElem?}
 use lib.Ieee.{binary32, fits}
 use mir.Syntax.{w16, w32, w64}
 use mir.Val.{Fits, SFits}
 use Rattle.refusal.specs.declared.Refusal.{Refusal}
-use Rattle.refusal.specs.Number.{numberOf}
+use Rattle.refusal.specs.declared.Reason.{Reason}
+use Rattle.refusal.specs.declared.Reason.the-variants.{Alone, At}
+use Rattle.refusal.specs.Number.{reasonOf}
 use Rattle.refusal.specs.Told.{Told, refused, gives}
 use Rattle.refusal.specs.Claims.{OneToOne}
 use Rattle.readings_rules.specs.declared.Burst.{Burst}
@@ -29,7 +31,7 @@ use Rattle.watch_rules.specs.Rules.{answer, mean, full, counts, target}
 use Rattle.watch_rules.specs.Plain.{Plain, idle, seen, next, answers, after}
 use Rattle.watch_rules.specs.Rows.{channels, levelsOf, first, rest}
 use Rattle.watch_rules.specs.Record.{rows, viewOf, wellFormed, fresh, called, tested, answersFrom, afterFrom}
-use Rattle.watch_rules.specs.Refusals.{Watched, Refuses, Accepted}
+use Rattle.watch_rules.specs.Refusals.{Watched, Faulty, Fault, FirstFault, Refuses, Accepted}
 use Rattle.watch_rules.specs.PlainSteps.{IsIdle, Started, Listed, Moved, Filed}
 
 -- ---- demand 3: what is compared besides the answers
@@ -139,6 +141,10 @@ pub data AllButForOrder : List Call → List Call → Type 0 where
   end : AllButForOrder [] []
   more : {k j : Call} {ks js : List Call} → ButForOrder k j → AllButForOrder ks js → AllButForOrder (k ∷ ks) (j ∷ js)
 
+-- one of 12 to 14, the numbers that tell a place
+abbrev pub OneOfFaults : ℕ → Type 0
+OneOfFaults n = (12 ≤ n) × (n ≤ 14)
+
 -- ---- demand 3
 
 -- "For every sequence of these calls from a fresh watch, whatever their arguments, refused ones included, every answer equals the one
@@ -147,15 +153,34 @@ pub record AsPlain (ks : List Call) : Type 0 where
   pub answered : answersFrom fresh ks ≡ answers idle ks
   pub alike : Alike (ofRecord (afterFrom fresh ks)) (ofPlain (after idle ks))
 
--- "every two sequences alike except for the order within their lists get the same answers and end alike in all of this"
+-- what two such sequences may be answered: the same, or both "one of 12 to 14", whichever of them and whatever the place
+pub data ButForFault : Told Given → Told Given → Type 0 where
+  sameAnswer : (a : Told Given) → ButForFault a a
+  faults : (n m place other : ℕ) → OneOfFaults n → OneOfFaults m → ButForFault (refused (At n place)) (refused (At m other))
+
+-- answer by answer
+pub data AllButForFault : List (Told Given) → List (Told Given) → Type 0 where
+  noMore : AllButForFault [] []
+  andMore : {a b : Told Given} {l m : List (Told Given)} → ButForFault a b → AllButForFault l m → AllButForFault (a ∷ l) (b ∷ m)
+
+-- "every two sequences alike except for the order within their lists get the same answers and end alike in all of this", and "may differ in
+-- which of 12 to 14 a refused list gets and in the place told, and in nothing else"
 pub record PlaceFree (ks js : List Call) : Type 0 where
-  pub answered : answersFrom fresh ks ≡ answersFrom fresh js
+  pub answered : AllButForFault (answersFrom fresh ks) (answersFrom fresh js)
   pub alike : Alike (ofRecord (afterFrom fresh ks)) (ofRecord (afterFrom fresh js))
 
 -- demand 3 whole
 pub record Demand3 : Type 0 where
   pub asPlain : (ks : List Call) → AsPlain ks
   pub placeFree : (ks js : List Call) → AllButForOrder ks js → PlaceFree ks js
+
+-- "and in nothing else": an answer that tells no place is the same in both, one that differs is 12, 13 or 14, and there are as many answers
+pub record NothingElse : Type 0 where
+  pub placeless : (a b : Told Given) → ButForFault a b → ((n place : ℕ) → ¬ (a ≡ refused (At n place))) → a ≡ b
+  pub numbers : (n place : ℕ) (b : Told Given) → ButForFault (refused (At n place)) b → ¬ (refused (At n place) ≡ b) → (n ≡ 12) ⊎ ((n ≡ 13) ⊎ (n ≡ 14))
+  pub each : (l m : List (Told Given)) → AllButForFault l m → (i : ℕ) (a b : Told Given) → getElem? l i ≡ some a → getElem? m i ≡ some b
+      → ButForFault a b
+  pub asMany : (l m : List (Told Given)) → AllButForFault l m → length l ≡ length m
 
 -- ---- well formed
 
@@ -205,10 +230,10 @@ ItFollows = (ks : List Call) → Follows (afterFrom fresh ks)
 -- 9: "a record not well formed", before every other refusal: the call and the test hand the record back as it was given. On any other the
 -- test is accepted, and no call is refused with 9
 pub record Unformed (w : Watch) : Type 0 where
-  pub calls : (k : Call) → ¬ (Reachable w) → called w k ≡ record { watch = w; answer = refused 9 }
-  pub tests : ¬ (Reachable w) → tested w ≡ record { watch = w; answer = refused 9 }
+  pub calls : (k : Call) → ¬ (Reachable w) → called w k ≡ record { watch = w; answer = refused (Alone 9) }
+  pub tests : ¬ (Reachable w) → tested w ≡ record { watch = w; answer = refused (Alone 9) }
   pub formed : Reachable w → tested w ≡ record { watch = w; answer = gives accepted }
-  pub others : (k : Call) → Reachable w → ¬ (called w k .answer ≡ refused 9)
+  pub others : (k : Call) → Reachable w → ¬ (called w k .answer ≡ refused (Alone 9))
 
 abbrev pub UnformedRule : Type 0
 UnformedRule = (w : Watch) → Unformed w
@@ -217,7 +242,7 @@ UnformedRule = (w : Watch) → Unformed w
 pub record LeftAsItWas (w : Watch) : Type 0 where
   pub asked : (c : ℕ) → called w (ask c) .watch ≡ w
   pub judged : (h : ℤ) → called w (verdict h) .watch ≡ w
-  pub refusing : (k : Call) (n : ℕ) → called w k .answer ≡ refused n → called w k .watch ≡ w
+  pub refusing : (k : Call) (n : Reason) → called w k .answer ≡ refused n → called w k .watch ≡ w
 
 abbrev pub Unchanged : Type 0
 Unchanged = (w : Watch) → LeftAsItWas w
@@ -250,7 +275,7 @@ pub record SequenceRule : Type 0 where
 -- "A call that the refusal rules below refuse, with these arguments in this state, answers that refusal and changes nothing. .. An accepted
 -- call": the steps of the plain watch, whatever it holds
 pub record StepsOf (p : Plain) : Type 0 where
-  pub refusing : (k : Call) (n : ℕ) → Refuses p k n → (answer (seen p) k ≡ refused n) × (next p k ≡ p)
+  pub refusing : (k : Call) (n : Reason) → Refuses p k n → (answer (seen p) k ≡ refused n) × (next p k ≡ p)
   pub starts : (c d : ℕ) → Accepted p (start c d) → Started c d (next p (start c d))
   pub lists : (l : List ℕ) → Accepted p (newList l) → Listed p l (next p (newList l))
   pub moves : (c : ℕ) → Accepted p (move c) → Moved p c (next p (move c))
@@ -275,9 +300,23 @@ pub record LastOf {A : Type 0} (n : ℕ) (all last : List A) : Type 0 where
 abbrev pub LevelsRule : Type 0
 LevelsRule = (ks : List Call) (c : ℕ) → LastOf (after idle ks .depth) (after idle ks .levels c) (ofRecord (afterFrom fresh ks) .levels c)
 
--- after every sequence of calls, the next is refused with a number exactly when the table says so
+-- after every sequence of calls, the next is refused with a number, and at a place where one is told, exactly when the table says so
 abbrev pub RefusalRule : Type 0
-RefusalRule = (ks : List Call) (k : Call) (n : ℕ) → (called (afterFrom fresh ks) k .answer ≡ refused n) ↔ Refuses (after idle ks) k n
+RefusalRule = (ks : List Call) (k : Call) (n : Reason) → (called (afterFrom fresh ks) k .answer ≡ refused n) ↔ Refuses (after idle ks) k n
+
+-- an answer of the group: "11 over 6 channels (no place)", and 12 to 14 at a place
+pub data OfGroup : Told Given → Type 0 where
+  eleven : OfGroup (refused (Alone 11))
+  placed : (n place : ℕ) → OneOfFaults n → OfGroup (refused (At n place))
+
+-- "Split it": a list gets one of 11 to 14 exactly where document 01 gave 5. At the first faulty place one number alone fits, in whichever order
+-- its faults are asked for: a serving channel is in range, and a repeat of a faulty channel is told at the earlier place. No other call tells a
+-- place
+pub record ListFaultRule : Type 0 where
+  pub split : (ks : List Call) (l : List ℕ) → OfGroup (called (afterFrom fresh ks) (newList l) .answer) ↔ Faulty (after idle ks) l
+  pub orderUnseen : (ks : List Call) (l : List ℕ) (place n m : ℕ) → FirstFault (after idle ks) l place n → Fault (after idle ks) l place m → m ≡ n
+  pub listsOnly : (ks : List Call) (k : Call) (n place : ℕ) → called (afterFrom fresh ks) k .answer ≡ refused (At n place)
+      → (l : List ℕ) × (k ≡ newList l)
 
 -- "The other calls answer that they are accepted.": where the table has no number
 abbrev pub Accepts : List Call → Call → Type 0
@@ -373,14 +412,14 @@ pub record WordsRule : Type 0 where
 
 -- ---- answers
 
--- an answer tells what its name says, and a refusal its number
+-- an answer tells what its name says, and a refusal its number and place
 pub record AnswersTold : Type 0 where
   pub accepts : told says.Accepted ≡ gives accepted
   pub asked : (count : ℕ) (mean : ℤ) → told (says.Levels count mean) ≡ gives (levels count mean)
   pub waits : told says.Wait ≡ gives wait
   pub stays : told says.Stay ≡ gives stay
   pub moves : (c : ℕ) → told (says.MoveTo c) ≡ gives (moveTo c)
-  pub number : (why : Refusal) → told (says.Refused why) ≡ refused (numberOf why)
+  pub reason : (why : Refusal) → told (says.Refused why) ≡ refused (reasonOf why)
 
 -- what is told of an answer fixes its case and values, and so does what is told of what a call hands back
 pub record AnswersDiffer : Type 0 where

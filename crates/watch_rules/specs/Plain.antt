@@ -1,15 +1,16 @@
--- Document 01, section The plain watch. It is fed the calls alone; it sees no answer and no record, and no place in a list.
+-- Document 01, section The plain watch. It is fed the calls alone; it sees no answer and no record. Of a list it takes the set;
+-- only the rule that refuses a list looks at places.
 use Prim.Native.Nat.{ℕ}
 use mathlib.Core.Bool.{Bool, false, not, cond, _&&_, _||_}
 use mathlib.Core.List.{List, [], _∷_, _++_}
 use mathlib.Core.Option.{Option, none, some}
 use lib.Dec.{eqb}
 use lib.IntN.{ℤ}
-use Rattle.refusal.specs.Told.{Told, refused, gives}
+use Rattle.refusal.specs.Told.{Told, refused, gives, unlessRefused}
 use Rattle.readings_rules.specs.Burst.{BurstResult, heard, missed, burstOf}
 use Rattle.watch_rules.specs.Lists.{mem, is, lastN}
 use Rattle.watch_rules.specs.Told.{Call, start, newList, move, file, ask, verdict, Given}
-use Rattle.watch_rules.specs.Rules.{View, refusal, answer, unlessRefused}
+use Rattle.watch_rules.specs.Rules.{View, allowed, answer}
 
 -- "It holds a serving channel or none, a set of neighbours and, for each of these channels (the ones under watch), all levels filed
 -- since it came under watch, oldest first.", and the depth given at its last accepted start
@@ -81,7 +82,7 @@ change p (verdict h) = p
 
 -- "A call that the refusal rules below refuse, with these arguments in this state, answers that refusal and changes nothing."
 abbrev pub next : Plain → Call → Plain
-next p k = unlessRefused (refusal (seen p) k) p (change p k)
+next p k = unlessRefused (allowed (seen p) k) p (change p k)
 
 -- the answers to a sequence of calls, and the plain watch after the last of them
 abbrev pub answers : Plain → List Call → List (Told Given)

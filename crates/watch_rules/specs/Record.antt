@@ -6,7 +6,7 @@ use lib.Dec.{eqb, leb}
 use lib.IntN.{ℤ, pos, negsuc}
 use lib.ListN.{length, take}
 use Rattle.refusal.specs.declared.Refusal.the-variants.{RecordNotWellFormed}
-use Rattle.refusal.specs.Told.{Told, gives, refusedFor}
+use Rattle.refusal.specs.Told.{Told, gives, refusedFor, unlessRefused}
 use Rattle.readings_rules.specs.Ranges.{levelInRange}
 use Rattle.watch_rules.specs.declared.Track.{Track}
 use Rattle.watch_rules.specs.declared.Watch.{Watch}
@@ -14,7 +14,7 @@ use Rattle.watch_rules.specs.Lists.{distinct, padTo}
 use Rattle.readings_rules.specs.Channels.{channelInRange}
 use Rattle.watch_rules.specs.Limits.{depthInRange, capacity, room}
 use Rattle.watch_rules.specs.Told.{Call, Called, Given, accepted}
-use Rattle.watch_rules.specs.Rules.{View, refusal, answer, unlessRefused}
+use Rattle.watch_rules.specs.Rules.{View, allowed, answer}
 use Rattle.watch_rules.specs.Rows.{Row, row, channels, shown, changedRows, changedDepth}
 
 -- the row of a track, and the rows of a record
@@ -92,7 +92,7 @@ changedRecord d rs k = recordOf (changedDepth d k) (changedRows d rs k)
 abbrev pub handed : Watch → List Row → Call → Called
 handed w rs k =
     record {
-      watch = unlessRefused (refusal (shown (w .depth) rs) k) w (changedRecord (w .depth) rs k);
+      watch = unlessRefused (allowed (shown (w .depth) rs) k) w (changedRecord (w .depth) rs k);
       answer = answer (shown (w .depth) rs) k;
     }
 

@@ -8,7 +8,9 @@ use mathlib.Core.List.{List}
 use mathlib.Core.Option.{none, some}
 use lib.IntN.{ℤ, pos}
 use lib.Signed.{_≤ℤ_, _<ℤ_}
-use lib.ListN.{length}
+use lib.ListN.{length, getElem?}
+use Rattle.refusal.specs.declared.Reason.{Reason}
+use Rattle.refusal.specs.declared.Reason.the-variants.{Alone, At}
 use Rattle.refusal.specs.Told.{refused}
 use Rattle.readings_rules.specs.declared.Burst.{Burst}
 use Rattle.readings_rules.specs.Burst.{burstOf}
@@ -20,35 +22,57 @@ use Rattle.watch_rules.specs.Plain.{Plain}
 abbrev pub Watched : Plain → ℕ → Type 0
 Watched p c = (p .serving ≡ some c) ⊎ (p .neighbour c ≡ true)
 
--- "a list with over 6 channels, one above 1,087, a repeat, or the serving channel"
+-- "a list with over 6 channels, one above 1,087, a repeat, or the serving channel": document 01's refusal 5, which document 02 splits
 pub data Faulty (p : Plain) (l : List ℕ) : Type 0 where
   tooLong : 6 < length l → Faulty p l
   above : (c : ℕ) → 0 < timesIn c l → 1087 < c → Faulty p l
   repeated : (c : ℕ) → 1 < timesIn c l → Faulty p l
   servingIn : (c : ℕ) → 0 < timesIn c l → p .serving ≡ some c → Faulty p l
 
--- the table: the call is refused with this number. "Several at once: 9, 8, 7, 2, 5, 6, 3, 4, 1.": a later number only where no earlier
--- one is given. 9 is a matter of the record, and no call from a fresh watch gets it
-pub data Refuses (p : Plain) : Call → ℕ → Type 0 where
+-- a fault of a place, counted from 0, by its number: "12 channel above 1,087, 13 repeat, 14 serving channel". It is the channel that stands
+-- there, and a repeat is one "of an earlier place"
+pub data Fault (p : Plain) (l : List ℕ) (place : ℕ) : ℕ → Type 0 where
+  aboveAt : (c : ℕ) → getElem? l place ≡ some c → 1087 < c → Fault p l place 12
+  againAt : (c earlier : ℕ) → getElem? l place ≡ some c → earlier < place → getElem? l earlier ≡ some c → Fault p l place 13
+  servingAt : (c : ℕ) → getElem? l place ≡ some c → p .serving ≡ some c → Fault p l place 14
+
+-- "in one place the order is range, serving, repeat"
+pub data AskedBefore : ℕ → ℕ → Type 0 where
+  rangeServing : AskedBefore 12 14
+  rangeRepeat : AskedBefore 12 13
+  servingRepeat : AskedBefore 14 13
+
+-- "Places are looked at in rising order and the first faulty one is told"
+pub record FirstFault (p : Plain) (l : List ℕ) (place n : ℕ) : Type 0 where
+  pub fault : Fault p l place n
+  pub first : (earlier m : ℕ) → earlier < place → ¬ (Fault p l earlier m)
+  pub order : (m : ℕ) → AskedBefore m n → ¬ (Fault p l place m)
+
+-- the table: the call is refused with this number, at this place where one is told. "Several at once: 9, 8, 7, 2, 5, 6, 3, 4, 1.": a later
+-- number only where no earlier one is given; "the group stands where 5 stood, 11 first". 9 is a matter of the record, and no call from a fresh
+-- watch gets it
+pub data Refuses (p : Plain) : Call → Reason → Type 0 where
   -- 7: "a .. hysteresis .. out of range", 0 to 6,000
-  hysteresisBelow : (h : ℤ) → h <ℤ pos 0 → Refuses p (verdict h) 7
-  hysteresisAbove : (h : ℤ) → pos 6000 <ℤ h → Refuses p (verdict h) 7
+  hysteresisBelow : (h : ℤ) → h <ℤ pos 0 → Refuses p (verdict h) (Alone 7)
+  hysteresisAbove : (h : ℤ) → pos 6000 <ℤ h → Refuses p (verdict h) (Alone 7)
   -- 7: "a depth outside 5 to 31, before 2"
-  depthBelow : (c d : ℕ) → d < 5 → Refuses p (start c d) 7
-  depthAbove : (c d : ℕ) → 31 < d → Refuses p (start c d) 7
+  depthBelow : (c d : ℕ) → d < 5 → Refuses p (start c d) (Alone 7)
+  depthAbove : (c d : ℕ) → 31 < d → Refuses p (start c d) (Alone 7)
   -- 2: "a start channel above 1,087"
-  startAbove : (c d : ℕ) → 5 ≤ d → d ≤ 31 → 1087 < c → Refuses p (start c d) 2
-  -- 5: a faulty list
-  listFaulty : (l : List ℕ) → Faulty p l → Refuses p (newList l) 5
+  startAbove : (c d : ℕ) → 5 ≤ d → d ≤ 31 → 1087 < c → Refuses p (start c d) (Alone 2)
+  -- 11: "over 6 channels (no place)"
+  listTooLong : (l : List ℕ) → 6 < length l → Refuses p (newList l) (Alone 11)
+  -- 12 to 14, with the place
+  listFaulty : (l : List ℕ) (place n : ℕ) → length l ≤ 6 → FirstFault p l place n → Refuses p (newList l) (At n place)
   -- 6: "a filed or asked channel not watched; a move to a channel not in the list; new list or verdict on an idle watch"
-  fileNotWatched : (c : ℕ) (b : Burst) → ¬ (Watched p c) → Refuses p (file c b) 6
-  askNotWatched : (c : ℕ) → ¬ (Watched p c) → Refuses p (ask c) 6
-  moveNotListed : (c : ℕ) → p .neighbour c ≡ false → Refuses p (move c) 6
-  listIdle : (l : List ℕ) → ¬ (Faulty p l) → p .serving ≡ none → Refuses p (newList l) 6
-  verdictIdle : (h : ℤ) → pos 0 ≤ℤ h → h ≤ℤ pos 6000 → p .serving ≡ none → Refuses p (verdict h) 6
+  fileNotWatched : (c : ℕ) (b : Burst) → ¬ (Watched p c) → Refuses p (file c b) (Alone 6)
+  askNotWatched : (c : ℕ) → ¬ (Watched p c) → Refuses p (ask c) (Alone 6)
+  moveNotListed : (c : ℕ) → p .neighbour c ≡ false → Refuses p (move c) (Alone 6)
+  listIdle : (l : List ℕ) → ¬ (Faulty p l) → p .serving ≡ none → Refuses p (newList l) (Alone 6)
+  verdictIdle : (h : ℤ) → pos 0 ≤ℤ h → h ≤ℤ pos 6000 → p .serving ≡ none → Refuses p (verdict h) (Alone 6)
   -- 1: "a level or quality, as a float .., is outside its range", by the readings' rule
-  burstOutOfRange : (c : ℕ) (b : Burst) → Watched p c → burstOf b ≡ refused 1 → Refuses p (file c b) 1
+  burstOutOfRange : (c : ℕ) (b : Burst) → Watched p c → burstOf b ≡ refused (Alone 1) → Refuses p (file c b) (Alone 1)
 
 -- an accepted call: no row of the table fits it
 abbrev pub Accepted : Plain → Call → Type 0
-Accepted p k = (n : ℕ) → ¬ (Refuses p k n)
+Accepted p k = (n : Reason) → ¬ (Refuses p k n)

@@ -2,17 +2,17 @@
 -- shows: its depth, who serves, who is a neighbour, and the levels of each channel. So they know no places, and the plain watch shares them.
 use Prim.Native.Nat.{ℕ, zero, suc}
 use mathlib.Core.Bool.{Bool, true, false, not, cond, _&&_, _||_}
-use mathlib.Core.List.{List, [], _∷_}
+use mathlib.Core.List.{List, [], _∷_, _++_}
 use mathlib.Core.Option.{Option, none, some}
 use lib.Dec.{leb}
 use lib.IntN.{ℤ, pos, _+ℤ_, _*ℤ_}
 use lib.Signed.{ltZ, shrZ}
 use lib.ListN.{length}
-use Rattle.refusal.specs.declared.Refusal.{Refusal}
-use Rattle.refusal.specs.declared.Refusal.the-variants.{ReadingOutOfRange, ChannelOutOfRange, ListFaulty, NotWatched, ParameterOutOfRange}
-use Rattle.refusal.specs.Told.{Told, refused, gives, refusedFor}
-use Rattle.readings_rules.specs.Burst.{BurstResult, burstOf}
-use Rattle.watch_rules.specs.Lists.{distinct, every, is, sum}
+use Rattle.refusal.specs.declared.Refusal.the-variants.{ChannelOutOfRange, NotWatched, ParameterOutOfRange, ListTooLong, ListedOutOfRange, ListedAgain, ListedServing}
+use Rattle.refusal.specs.Told as refusal
+use Rattle.refusal.specs.Told.{Told, provided, acceptance, giving}
+use Rattle.readings_rules.specs.Burst.{burstOf}
+use Rattle.watch_rules.specs.Lists.{mem, is, sum}
 use Rattle.readings_rules.specs.Channels.{channelHighest, channelInRange}
 use Rattle.watch_rules.specs.Limits.{listLimit, hysteresisInRange, depthInRange}
 use Rattle.watch_rules.specs.Told.{Call, start, newList, move, file, ask, verdict, Given, accepted, levels, wait, stay, moveTo}
@@ -36,33 +36,35 @@ serves (some s) = true
 
 -- ---- refusals
 
--- a list may be taken: at most 6 channels, none above 1,087, no repeat, and not the serving channel
-abbrev pub listSound : Option ℕ → List ℕ → Bool
-listSound s l = (leb (length l) listLimit && every channelInRange l) && (distinct l && every (λ c. not (is s c)) l)
+-- A list: "Places are looked at in rising order and the first faulty one is told; in one place the order is range, serving, repeat of an
+-- earlier place." A place is counted from 0, so it is the number of channels that stand before it.
 
--- this refusal unless the test holds, else what comes after it
-abbrev pub refuseUnless : Bool → Refusal → Option Refusal → Option Refusal
-refuseUnless true r after = after
-refuseUnless false r after = some r
+-- this answer where the channel behind these has no fault, else its fault and place
+abbrev pub unlessFaultyAt : Option ℕ → List ℕ → ℕ → Told Unit → Told Unit
+unlessFaultyAt s earlier c answer =
+    provided (channelInRange c) (ListedOutOfRange (length earlier))
+    (provided (not (is s c)) (ListedServing (length earlier))
+    (provided (not (mem c earlier)) (ListedAgain (length earlier))
+    answer))
 
--- 1: a float of the burst lies outside its range
-abbrev pub burstRefusal : Told BurstResult → Option Refusal
-burstRefusal (gives b) = none
-burstRefusal (refused n) = some ReadingOutOfRange
+-- the same of the channels behind these, one place after the other
+abbrev pub unlessFaultyFrom : Option ℕ → List ℕ → List ℕ → Told Unit → Told Unit
+unlessFaultyFrom s earlier [] answer = answer
+unlessFaultyFrom s earlier (c ∷ more) answer = unlessFaultyAt s earlier c (unlessFaultyFrom s (earlier ++ c ∷ []) more answer)
 
--- why a call is refused, if it is, in the order 7, 2, 5, 6, 1; 9 is a matter of the record alone
-abbrev pub refusal : View → Call → Option Refusal
-refusal v (start c d) = refuseUnless (depthInRange d) ParameterOutOfRange (refuseUnless (channelInRange c) ChannelOutOfRange none)
-refusal v (newList l) = refuseUnless (listSound (v .serving) l) ListFaulty (refuseUnless (serves (v .serving)) NotWatched none)
-refusal v (move c) = refuseUnless (v .neighbour c) NotWatched none
-refusal v (file c b) = refuseUnless (watched v c) NotWatched (burstRefusal (burstOf b))
-refusal v (ask c) = refuseUnless (watched v c) NotWatched none
-refusal v (verdict h) = refuseUnless (hysteresisInRange h) ParameterOutOfRange (refuseUnless (serves (v .serving)) NotWatched none)
+-- the same of a list, where s serves or nobody: "11 over 6 channels (no place)" comes first
+abbrev pub unlessFaulty : Option ℕ → List ℕ → Told Unit → Told Unit
+unlessFaulty s l answer = provided (leb (length l) listLimit) ListTooLong (unlessFaultyFrom s [] l answer)
 
--- what follows a call: as it was where the call is refused
-abbrev pub unlessRefused {ℓ} : {A : Type ℓ} → Option Refusal → A → A → A
-unlessRefused none before after = after
-unlessRefused (some r) before after = before
+-- whether a call is accepted, or why it is refused, in the order 7, 2, 11 to 14, 6, 1; 9 is a matter of the record alone. 1 is that of the
+-- burst: a float of it lies outside its range
+abbrev pub allowed : View → Call → Told Unit
+allowed v (start c d) = provided (depthInRange d) ParameterOutOfRange (provided (channelInRange c) ChannelOutOfRange refusal.accepted)
+allowed v (newList l) = unlessFaulty (v .serving) l (provided (serves (v .serving)) NotWatched refusal.accepted)
+allowed v (move c) = provided (v .neighbour c) NotWatched refusal.accepted
+allowed v (file c b) = provided (watched v c) NotWatched (acceptance (burstOf b))
+allowed v (ask c) = provided (watched v c) NotWatched refusal.accepted
+allowed v (verdict h) = provided (hysteresisInRange h) ParameterOutOfRange (provided (serves (v .serving)) NotWatched refusal.accepted)
 
 -- ---- ask
 
@@ -127,10 +129,6 @@ granted v (file c b) = accepted
 granted v (ask c) = levels (length (v .levels c)) (mean (v .levels c))
 granted v (verdict h) = verdictOf v h
 
-abbrev pub orRefused : Option Refusal → Given → Told Given
-orRefused none g = gives g
-orRefused (some r) g = refusedFor r
-
 -- what a call answers
 unfoldable pub answer : View → Call → Told Given
-answer v k = orRefused (refusal v k) (granted v k)
+answer v k = giving (allowed v k) (granted v k)

@@ -1,4 +1,4 @@
--- The calls, and each answer in document 01's terms: the refusal number, or the values.
+-- The calls, and each answer in document 01's terms: what is told of a refusal, or the values.
 use Prim.Native.Nat.{ℕ}
 use mathlib.Core.List.{List}
 use lib.IntN.{ℤ}

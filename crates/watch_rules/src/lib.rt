@@ -1,6 +1,6 @@
 // The neighbour watch: its record and what its calls answer. Document 01, sections The watch and The plain watch.
 // The rules, the plain watch and demand 3 stand in specs/; the calls stand in the crate `watch`.
-ghost use Rattle.watch_rules.specs.Claims.{Demand3, WellFormedIsReachable, ItFollows, Unchanged, UnformedRule, ListRule, SequenceRule, PlainRule, LevelsRule, RefusalRule, AcceptedRule, AskRule, VerdictRule, PartRule, DepthRule, WordsRule, AnswersTold, AnswersDiffer};
+ghost use Rattle.watch_rules.specs.Claims.{Demand3, NothingElse, WellFormedIsReachable, ItFollows, Unchanged, UnformedRule, ListRule, SequenceRule, PlainRule, LevelsRule, RefusalRule, ListFaultRule, AcceptedRule, AskRule, VerdictRule, PartRule, DepthRule, WordsRule, AnswersTold, AnswersDiffer};
 use refusal::Refusal;
 
 // How many levels of a channel make a mean and a sum is the depth of a watch, given at its start: older levels go.
@@ -56,6 +56,7 @@ pub struct Handed {
 // Nothing to run: its contract is demand 3 and all else that is claimed of the watch, so that the check asks for the proof of each.
 pub fn claimed()
     ensures demand3 { λ _. ⌜ Demand3 ⌝ }
+    ensures order { λ _. ⌜ NothingElse ⌝ }
     ensures formed { λ _. ⌜ WellFormedIsReachable ⌝ }
     ensures follows { λ _. ⌜ ItFollows ⌝ }
     ensures unchanged { λ _. ⌜ Unchanged ⌝ }
@@ -65,6 +66,7 @@ pub fn claimed()
     ensures plain { λ _. ⌜ PlainRule ⌝ }
     ensures kept { λ _. ⌜ LevelsRule ⌝ }
     ensures refuses { λ _. ⌜ RefusalRule ⌝ }
+    ensures faults { λ _. ⌜ ListFaultRule ⌝ }
     ensures accepts { λ _. ⌜ AcceptedRule ⌝ }
     ensures ask { λ _. ⌜ AskRule ⌝ }
     ensures verdict { λ _. ⌜ VerdictRule ⌝ }

@@ -9,4 +9,4 @@ answer-number-spec =
     tie.close
     (tie.spec
     (λ c. search needs) (λ c κs. tt) (λ c. search needs)
-    (λ c. not-refused (c .before .args .a) (c .match .keys2)))
+    (λ c. not-refused (c .before .args .a) (c .match .keys2) .0))

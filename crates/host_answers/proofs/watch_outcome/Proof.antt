@@ -1,4 +1,4 @@
--- The watch that is handed back, and its answer in numbers.
+-- The watch that is handed back, and its answer in numbers: the refusal's number and its place.
 use Rattle.host_answers.proofs.watch_outcome.Statement.{statement}
 use Rattle.host_answers.proofs.watch_outcome.Tie as tie
 
@@ -6,5 +6,5 @@ pub watch-outcome-spec : {M : Type 1} → statement M
 watch-outcome-spec =
     tie.close
     (tie.spec
-    (λ c κs. tt)
-    (λ c. rw (c .answer-number .ensures)))
+    (λ c κs. tt) (λ c κs. tt)
+    (λ c. rw (c .before .answer-number .ensures, c .answer-place .ensures)))

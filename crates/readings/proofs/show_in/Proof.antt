@@ -9,7 +9,9 @@ use lib.Ieee.{Float, binary32, ofInt, ofBits, inFloat, div}
 use mir.Syntax.{w32}
 use mir.Val.{SFits, toZ, ofZ}
 use mir.ValLaws.{toZ-ofZ}
-use Rattle.readings_rules.specs.Hundredths.{whereInRange}
+use Rattle.refusal.specs.declared.Refusal.the-variants.{ReadingOutOfRange}
+use Rattle.refusal.specs.Told.{gives, provided}
+use Rattle.readings_rules.specs.Ranges.{inRange}
 use Rattle.readings_rules.specs.Float.{shown, floatOf}
 use Rattle.readings_rules.proofs.Range.{in-float, in-size, product-fits}
 use Rattle.readings.proofs.show_in.Statement.{statement}
@@ -43,12 +45,12 @@ high-test c b t =
     (subst (λ (z : ℤ). leZ (read (c .args .h)) z ≡ b) (end-is (c .args .high) (c .fits .high) (c .pre .1)) t)
 
 picked : (c : tie.Start) (a b : Bool) (x : Float) → leZ (c .args .low *ℤ pos 100) (c .args .h) ≡ a → leZ (c .args .h) (c .args .high *ℤ pos 100) ≡ b → x ≡ floatOf (c .args .h)
-    → whereInRange (a && b) x ≡ shown (c .args .low) (c .args .high) (c .args .h)
+    → provided (a && b) ReadingOutOfRange (gives x) ≡ shown (c .args .low) (c .args .high) (c .args .h)
 unfolding shown
 picked c a b x e f g =
-    ap (λ (t : Bool). whereInRange (t && b) x) (sym e)
-    ∙ ap (λ (t : Bool). whereInRange (leZ (c .args .low *ℤ pos 100) (c .args .h) && t) x) (sym f)
-    ∙ ap (whereInRange (leZ (c .args .low *ℤ pos 100) (c .args .h) && leZ (c .args .h) (c .args .high *ℤ pos 100))) g
+    ap (λ (t : Bool). provided (t && b) ReadingOutOfRange (gives x)) (sym e)
+    ∙ ap (λ (t : Bool). provided (leZ (c .args .low *ℤ pos 100) (c .args .h) && t) ReadingOutOfRange (gives x)) (sym f)
+    ∙ ap (λ (y : Float). provided (inRange (c .args .low) (c .args .high) (c .args .h)) ReadingOutOfRange (gives y)) g
 
 int-to-float-t8 : tie.Need-int-to-float-t8
 int-to-float-t8 c =

@@ -7,7 +7,7 @@ use lib.Signed.{ltZ}
 use mir.Syntax.{w16}
 use mir.Val.{SFits}
 use borrow.Author.Needs.{needs}
-use borrow.Author.Tests.{ltb-false, not-false}
+use borrow.Author.Tests.{ltb-false}
 use Rattle.run_examples.proofs.held.Statement.{statement}
 use Rattle.run_examples.proofs.held.Tie as tie
 

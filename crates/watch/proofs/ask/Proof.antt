@@ -3,7 +3,6 @@ use Prim.Native.Nat.{ℕ, _<_}
 use mathlib.Core.Path.{_≡_, refl, sym, ap, ap₂, _∙_}
 use mathlib.Core.Bool.{true}
 use mathlib.Core.List.{List}
-use mathlib.Core.Option.{none}
 use native.Mathlib.Omega.{arith}
 use borrow.Author.Needs.{needs}
 use borrow.Author.Tests.{not-true, not-false}
@@ -12,6 +11,7 @@ use lib.ListN.{length, getD}
 use mir.Facts.{toZ-ofZ}
 use Rattle.refusal.specs.declared.Refusal.the-variants.{NotWatched}
 use Rattle.refusal.specs.Told.{gives}
+use Rattle.refusal.proofs.Provided.{refuse-now, refuse-later}
 use Rattle.watch_rules.specs.declared.Track.{Track}
 use Rattle.watch_rules.specs.declared.Watch.{Watch}
 use Rattle.watch_rules.specs.Limits.{capacity, room}
@@ -20,7 +20,7 @@ use Rattle.watch_rules.specs.Rules.{mean}
 use Rattle.watch_rules.specs.Record.{rowOf, trackFine, wellFormed, called}
 use Rattle.watch_rules.proofs.Depth.{depth-within}
 use Rattle.watch_rules.proofs.Encode.{fine-within, read-record, track-count, track-levels}
-use Rattle.watch_rules.proofs.Calls.{called-unformed, called-refused, called-granted, refuse-now, refuse-later, formed-depth}
+use Rattle.watch_rules.proofs.Calls.{called-unformed, called-refused, called-granted, formed-depth}
 use Rattle.watch_record.specs.Code.{nothing, back}
 use Rattle.watch_list.proofs.Watched.{found-place, found-below}
 use Rattle.watch.proofs.Found.{place-watched, place-unwatched, found-fine, found-levels}
@@ -61,8 +61,8 @@ returns-2 c =
     let e1 = c .before .before .before .before in
     let a = e1 .before .before .args in
     c .refused2 .ensures
-    ∙ sym (called-refused (a .w) (ask (a .channel)) (formed e1) NotWatched
-    (refuse-now NotWatched none (place-unwatched (a .w) (a .channel) (formed e1) (sym (c .before .before .place .ensures) ∙ c .before .if2 .taken))))
+    ∙ sym (called-refused (a .w) (ask (a .channel)) (formed e1)
+    (refuse-now NotWatched _ (place-unwatched (a .w) (a .channel) (formed e1) (sym (c .before .before .place .ensures) ∙ c .before .if2 .taken))))
 
 below : (c : tie.Else2) → c .before .place .result < room
 below c = found-below (entry c .args .w) (entry c .args .channel) (formed (c .before .before .before)) (c .before .place .ensures) (c .if2 .left)

@@ -2,7 +2,6 @@
 use Prim.Native.Nat.{ℕ, _<_}
 use mathlib.Core.Path.{_≡_, sym, ap, _∙_, subst}
 use mathlib.Core.Bool.{true}
-use mathlib.Core.Option.{some}
 use native.Mathlib.Omega.{arith}
 use borrow.Author.Needs.{needs}
 use borrow.Author.Tests.{not-true, not-false}
@@ -11,20 +10,23 @@ use lib.ListN.{getD}
 use mir.Syntax.{w32}
 use mir.Val.{SFits}
 use mir.Facts.{toZ-ofZ}
-use Rattle.refusal.specs.declared.Refusal.the-variants.{NotWatched, ReadingOutOfRange}
-use Rattle.refusal.specs.Told.{Told, gives, refused}
+use Rattle.refusal.specs.declared.Refusal.the-variants.{NotWatched}
+use Rattle.refusal.specs.declared.Reason.the-variants.{Alone}
+use Rattle.refusal.specs.Told.{Told, gives, refused, refusedFor, acceptance}
+use Rattle.refusal.proofs.Provided.{refuse-now, refuse-later}
 use Rattle.readings_rules.specs.Ranges.{levelInRange}
 use Rattle.readings_rules.specs.Burst.{BurstResult, heard, missed, burstOf, InRange}
 use Rattle.readings_rules.specs.Told.{toldBurst}
+use Rattle.readings_rules.proofs.Bursts.{burst-1}
 use Rattle.watch_rules.specs.declared.Watch.{Watch}
 use Rattle.watch_rules.specs.Limits.{depthInRange, room}
 use Rattle.watch_rules.specs.Told.{file, accepted}
-use Rattle.watch_rules.specs.Rules.{watched, burstRefusal}
+use Rattle.watch_rules.specs.Rules.{watched}
 use Rattle.watch_rules.specs.Rows.{push, filedRows}
 use Rattle.watch_rules.specs.Record.{rows, viewOf, rowOf, trackOf, recordOf, trackFine, wellFormed, called}
 use Rattle.watch_rules.proofs.Depth.{depth-used}
 use Rattle.watch_rules.proofs.Encode.{read-record}
-use Rattle.watch_rules.proofs.Calls.{called-unformed, called-refused, called-granted, refuse-now, refuse-later, formed-depth}
+use Rattle.watch_rules.proofs.Calls.{called-unformed, called-refused, called-granted, formed-depth}
 use Rattle.watch_record.specs.Code.{nothing, back}
 use Rattle.watch_list.proofs.Watched.{found-place, found-below}
 use Rattle.watch.specs.Code.{withTrack}
@@ -84,8 +86,8 @@ returns-2 c =
     let e1 = c .before .before .before .before in
     let a = e1 .before .before .args in
     c .refused2 .ensures
-    ∙ sym (called-refused (a .w) (file (a .channel) (a .burst)) (formed e1) NotWatched
-    (refuse-now NotWatched (burstRefusal (burstOf (a .burst))) (place-unwatched (a .w) (a .channel) (formed e1) (sym (c .before .before .place .ensures) ∙ c .before .if2 .taken))))
+    ∙ sym (called-refused (a .w) (file (a .channel) (a .burst)) (formed e1)
+    (refuse-now NotWatched _ (place-unwatched (a .w) (a .channel) (formed e1) (sym (c .before .before .place .ensures) ∙ c .before .if2 .taken))))
 
 burst-to-hundredths-requires : tie.Need-burst-to-hundredths-requires
 burst-to-hundredths-requires c κs = search needs
@@ -130,7 +132,7 @@ granted : (c : tie.Else2) (b : BurstResult) → burstOf (entry c .args .burst) �
     (filedRows (entry c .args .w .depth) (entry c .args .channel) (gives b) (rows (entry c .args .w)))) (gives accepted)
 granted c b e =
     let a = entry c .args in
-    called-granted (a .w) (file (a .channel) (a .burst)) (formed-there c) (refuse-later NotWatched (is-watched c) (ap burstRefusal e))
+    called-granted (a .w) (file (a .channel) (a .burst)) (formed-there c) (refuse-later NotWatched (is-watched c) (ap acceptance e))
     ∙ ap (λ (t : Told BurstResult). back (recordOf (a .w .depth) (filedRows (a .w .depth) (a .channel) t (rows (a .w)))) (gives accepted)) e
 
 returns-3 : tie.Need-returns-3
@@ -148,10 +150,11 @@ returns-4 c =
     let told = c .before in
     let e2 = told .before .before .before in
     let a = entry e2 .args in
-    let b : burstRefusal (burstOf (a .burst)) ≡ some ReadingOutOfRange =
-    ap burstRefusal (sym (told .before .before .burst-to-hundredths .ensures .0) ∙ ap toldBurst (told .enum-told2 .given .1)) in
+    let b : burstOf (a .burst) ≡ refusedFor (told .enum-told2 .given .0 .0) =
+    sym (told .before .before .burst-to-hundredths .ensures .0) ∙ ap toldBurst (told .enum-told2 .given .1) in
+    let one : burstOf (a .burst) ≡ refused (Alone 1) = b ∙ ap refused (burst-1 (a .burst) _ b) in
     c .refused3 .ensures
-    ∙ sym (called-refused (a .w) (file (a .channel) (a .burst)) (formed-there e2) ReadingOutOfRange (refuse-later NotWatched (is-watched e2) b))
+    ∙ sym (called-refused (a .w) (file (a .channel) (a .burst)) (formed-there e2) (refuse-later NotWatched (is-watched e2) (ap acceptance one)))
 
 returns-5 : tie.Need-returns-5
 returns-5 c =

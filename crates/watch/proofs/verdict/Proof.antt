@@ -2,7 +2,6 @@
 use Prim.Native.Nat.{_≤_}
 use mathlib.Core.Path.{_≡_, refl, sym, ap, subst, _∙_}
 use mathlib.Core.Bool.{true}
-use mathlib.Core.Option.{none}
 use native.Mathlib.Omega.{arith}
 use borrow.Author.Needs.{needs}
 use borrow.Author.Tests.{not-true, not-false, leb-true}
@@ -15,6 +14,7 @@ use mir.Val.{toZ, ofZ}
 use mir.Facts.{toZ-ofZ}
 use Rattle.refusal.specs.declared.Refusal.the-variants.{ParameterOutOfRange, NotWatched}
 use Rattle.refusal.specs.Told.{gives}
+use Rattle.refusal.proofs.Provided.{refuse-now, refuse-later}
 use Rattle.watch_rules.specs.declared.Watch.{Watch}
 use Rattle.watch_rules.specs.Limits.{hysteresisHighest, hysteresisInRange}
 use Rattle.watch_rules.specs.Told.{verdict}
@@ -23,7 +23,7 @@ use Rattle.watch_rules.specs.Rows.{first}
 use Rattle.watch_rules.specs.Record.{rows, viewOf, wellFormed, called}
 use Rattle.watch_rules.proofs.Laws.{clash, and-right}
 use Rattle.watch_rules.proofs.Encode.{read-record}
-use Rattle.watch_rules.proofs.Calls.{called-unformed, called-refused, called-granted, refuse-now, refuse-later}
+use Rattle.watch_rules.proofs.Calls.{called-unformed, called-refused, called-granted}
 use Rattle.watch_record.specs.Code.{nothing, back}
 use Rattle.watch_list.specs.Code.{servingOf}
 use Rattle.watch_list.proofs.NewList.{serving-is, serving-none, serving-some}
@@ -100,7 +100,7 @@ returns-2 c =
     let e1 = c .before .before .before in
     let a = e1 .before .before .args in
     c .refused2 .ensures
-    ∙ sym (called-refused (a .w) (verdict (a .hysteresis)) (formed e1) ParameterOutOfRange
+    ∙ sym (called-refused (a .w) (verdict (a .hysteresis)) (formed e1)
     (refuse-now ParameterOutOfRange _
     (ap hysteresisInRange (sym (bits (e1 .before .before))) ∙ sym (c .before .before .hysteresis-ok .ensures) ∙ not-true _ (c .before .if2 .taken))))
 
@@ -113,9 +113,9 @@ returns-3 c =
     let e1 = e2 .before .before in
     let a = e1 .before .before .args in
     c .refused3 .ensures
-    ∙ sym (called-refused (a .w) (verdict (a .hysteresis)) (formed e1) NotWatched
+    ∙ sym (called-refused (a .w) (verdict (a .hysteresis)) (formed e1)
     (refuse-later ParameterOutOfRange (in-range e2)
-    (refuse-now NotWatched none (ap serves (serving e1) ∙ serving-none (a .w .watched) (getD (a .w .tracks) 0 nothing .channel) (c .before .if3 .taken)))))
+    (refuse-now NotWatched _ (ap serves (serving e1) ∙ serving-none (a .w .watched) (getD (a .w .tracks) 0 nothing .channel) (c .before .if3 .taken)))))
 
 cast-judged : tie.Need-cast-judged
 cast-judged c =

@@ -3,18 +3,18 @@
 use Prim.Native.Nat.{_<_}
 use mathlib.Core.Path.{_≡_, refl, sym, ap, _∙_}
 use mathlib.Core.Bool.{true}
-use mathlib.Core.Option.{none}
 use native.Mathlib.Omega.{arith}
 use borrow.Author.Needs.{needs}
 use borrow.Author.Tests.{not-true, not-false, eqb-true, eq-eqb}
 use lib.Dec.{eqb}
 use Rattle.refusal.specs.declared.Refusal.the-variants.{NotWatched}
 use Rattle.refusal.specs.Told.{gives}
+use Rattle.refusal.proofs.Provided.{refuse-now, refuse-later}
 use Rattle.watch_rules.specs.declared.Watch.{Watch}
 use Rattle.watch_rules.specs.Limits.{room}
 use Rattle.watch_rules.specs.Told.{move, accepted}
 use Rattle.watch_rules.specs.Record.{wellFormed}
-use Rattle.watch_rules.proofs.Calls.{called-unformed, called-refused, called-granted, refuse-now, refuse-later}
+use Rattle.watch_rules.proofs.Calls.{called-unformed, called-refused, called-granted}
 use Rattle.watch_rules.proofs.Laws.{byCase, clash, or-true-right, or-false-left, or-false-right}
 use Rattle.watch_record.specs.Code.{back}
 use Rattle.watch_list.specs.Code.{exchange}
@@ -71,8 +71,8 @@ returns-2 c =
     let p = c .before .before .place .result in
     let e = sym (c .before .before .place .ensures) in
     c .refused2 .ensures
-    ∙ sym (called-refused (a .w) (move (a .channel)) f NotWatched
-    (refuse-now NotWatched none
+    ∙ sym (called-refused (a .w) (move (a .channel)) f
+    (refuse-now NotWatched _
     (byCase (eqb p (a .w .watched))
     (λ q. outside-no-neighbour (a .w) (a .channel) f (e ∙ eqb-true p (a .w .watched) q))
     (λ q. serving-no-neighbour (a .w) (a .channel) f (e ∙ eqb-true p 0 (or-true-right (eqb p (a .w .watched)) (eqb p 0) (c .before .if2 .taken) q))))))

@@ -2,19 +2,19 @@
 use Prim.Native.Nat.{ℕ}
 use mathlib.Core.Path.{_≡_, refl, sym, ap₂, _∙_}
 use mathlib.Core.Bool.{true}
-use mathlib.Core.Option.{none}
 use borrow.Author.Needs.{needs}
 use borrow.Author.Tests.{not-true, not-false, le-leb, lt-leb}
 use lib.ListN.{set}
 use Rattle.refusal.specs.declared.Refusal.the-variants.{ChannelOutOfRange, ParameterOutOfRange}
 use Rattle.refusal.specs.Told.{gives}
+use Rattle.refusal.proofs.Provided.{refuse-now, refuse-later}
 use Rattle.watch_rules.specs.declared.Track.{Track}
 use Rattle.watch_rules.specs.declared.Watch.{Watch}
 use Rattle.readings_rules.specs.Channels.{channelHighest}
 use Rattle.watch_rules.specs.Limits.{depthInRange}
 use Rattle.watch_rules.specs.Told.{start, accepted}
 use Rattle.watch_rules.specs.Record.{wellFormed}
-use Rattle.watch_rules.proofs.Calls.{called-unformed, called-refused, called-granted, refuse-now, refuse-later}
+use Rattle.watch_rules.proofs.Calls.{called-unformed, called-refused, called-granted}
 use Rattle.watch_record.specs.Code.{back}
 use Rattle.watch_list.proofs.start.Statement.{statement}
 use Rattle.watch_list.proofs.start.Tie as tie
@@ -48,7 +48,7 @@ returns-2 c =
     let e1 = c .before .before .before in
     let a = e1 .before .before .args in
     c .refused2 .ensures
-    ∙ sym (called-refused (a .w) (start (a .serving) (a .depth)) (formed e1) ParameterOutOfRange
+    ∙ sym (called-refused (a .w) (start (a .serving) (a .depth)) (formed e1)
     (refuse-now ParameterOutOfRange _ (sym (c .before .before .depth-in-range .ensures) ∙ not-true _ (c .before .if2 .taken))))
 
 deep : (c : tie.Else2) → depthInRange (c .before .before .before .before .args .depth) ≡ true
@@ -63,8 +63,8 @@ returns-3 c =
     let e1 = e2 .before .before in
     let a = e1 .before .before .args in
     c .refused3 .ensures
-    ∙ sym (called-refused (a .w) (start (a .serving) (a .depth)) (formed e1) ChannelOutOfRange
-    (refuse-later ParameterOutOfRange (deep e2) (refuse-now ChannelOutOfRange none (lt-leb (a .serving) channelHighest (c .before .if3 .taken)))))
+    ∙ sym (called-refused (a .w) (start (a .serving) (a .depth)) (formed e1)
+    (refuse-later ParameterOutOfRange (deep e2) (refuse-now ChannelOutOfRange _ (lt-leb (a .serving) channelHighest (c .before .if3 .taken)))))
 
 fresh-requires : tie.Need-fresh-requires
 fresh-requires c κs = search needs

@@ -2,6 +2,7 @@
 use Rattle.watch_rules.proofs.Words.{wordsRule}
 use Rattle.watch_rules.proofs.Rules.{levelsRule, refusalRule, acceptedRule}
 use Rattle.watch_rules.proofs.Demand3.{demand3}
+use Rattle.watch_rules.proofs.FaultClaims.{nothingElse, listFaultRule}
 use Rattle.watch_rules.proofs.Reach.{wellFormedIsReachable}
 use Rattle.watch_rules.proofs.Unchanged.{unchanged}
 use Rattle.watch_rules.proofs.Follows.{itFollows, unformedRule}
@@ -19,20 +20,26 @@ returns : tie.Need-returns
 returns c = (
   demand3,
   (
-    wellFormedIsReachable,
+    nothingElse,
     (
-      itFollows,
+      wellFormedIsReachable,
       (
-        unchanged,
+        itFollows,
         (
-          unformedRule,
+          unchanged,
           (
-            listRule,
+            unformedRule,
             (
-              sequenceRule,
+              listRule,
               (
-                plainRule,
-                (levelsRule, (refusalRule, (acceptedRule, (askRule, (verdictRule, (partRule, (depthRule, (wordsRule, (answersTold, answersDiffer))))))))),
+                sequenceRule,
+                (
+                  plainRule,
+                  (
+                    levelsRule,
+                    (refusalRule, (listFaultRule, (acceptedRule, (askRule, (verdictRule, (partRule, (depthRule, (wordsRule, (answersTold, answersDiffer))))))))),
+                  ),
+                ),
               ),
             ),
           ),
