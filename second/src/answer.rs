@@ -25,6 +25,15 @@ fn accepted() -> String {
     "accepted".to_string()
 }
 
+/// What a refused call writes: the number and, where one is told, the place.
+fn refused(refusal: Refusal) -> String {
+    let number = refusal.number();
+    match refusal.place() {
+        Some(place) => format!("refused {number} at {place}"),
+        None => format!("refused {number}"),
+    }
+}
+
 impl Session {
     /// Rule "at the start of a session": all is fresh, idle or zero.
     pub fn fresh() -> Session {
@@ -49,7 +58,7 @@ impl Session {
             Some(Call::Watch(call)) => self.answer_watch(&call),
             Some(Call::Power(call)) => self.answer_power(&call),
         };
-        Some(answer.unwrap_or_else(|refusal| format!("refused {}", refusal.number())))
+        Some(answer.unwrap_or_else(refused))
     }
 
     /// The calls on the sweep, the outcome bytes and the choice.
@@ -307,8 +316,10 @@ mod tests {
             ("move 0", "refused 6"),
             ("list", "refused 6"),
             ("list 0", "refused 6"),
-            ("list 0 0", "refused 5"),
-            ("list 1 2 3 4 5 6 7", "refused 5"),
+            ("list 0 0", "refused 13 at 1"),
+            ("list 0 1088", "refused 12 at 1"),
+            ("list 1 2 3 4 5 6", "refused 6"),
+            ("list 1 2 3 4 5 6 7", "refused 11"),
             ("verdict 0", "refused 6"),
             ("verdict -1", "refused 7"),
             ("start 1088", "refused 2"),
@@ -316,6 +327,31 @@ mod tests {
             ("start 0 32", "refused 7"),
             ("ask 0", "refused 6"),
             ("ask 1088", "refused 6"),
+        ]);
+    }
+
+    #[test]
+    fn faulty_lists_as_a_session() {
+        check(&[
+            ("start 10", "accepted"),
+            ("list 20 30", "accepted"),
+            ("file 20 heard -90 0", "accepted"),
+            ("list 1 2 3 4 5 6 7", "refused 11"),
+            ("list 10 1088 3 3 5 6 7 8", "refused 11"),
+            ("list 1088", "refused 12 at 0"),
+            ("list 1 2 3 4 5 65535", "refused 12 at 5"),
+            ("list 20 30 20", "refused 13 at 2"),
+            ("list 0000000020 20", "refused 13 at 1"),
+            ("list 20 10 30", "refused 14 at 1"),
+            ("list 20 10 1088", "refused 14 at 1"),
+            ("list 20 1088 10", "refused 12 at 1"),
+            ("list 1088 1 2 3 4 5 6 7 8", "error line 13"),
+            ("list 1088 65536", "error line 14"),
+            ("ask 20", "count 1 mean -9000"),
+            ("ask 30", "count 0 mean 0"),
+            ("ask 1", "refused 6"),
+            ("list 30 20 1087", "accepted"),
+            ("ask 20", "count 1 mean -9000"),
         ]);
     }
 

@@ -1,6 +1,7 @@
 //! Made sessions: scenes aimed at the wrong turns, one after another, from a seed.
 
 use crate::scene_faulty::{catalogue, faulty};
+use crate::scene_list::every_fault;
 use crate::scene_power::power_loop;
 use crate::scene_readings::readings;
 use crate::scene_sweep::{sweep_and_choose, whole_sweep};
@@ -10,10 +11,11 @@ use std::io::{Result, Write};
 
 /// A scene that leaves an idle watch idle.
 fn scene_without_watch(script: &mut Script) {
-    match script.dice.below(4) {
+    match script.dice.below(5) {
         0 => readings(script),
         1 => sweep_and_choose(script),
         2 => power_loop(script),
+        3 => every_fault(script),
         _ => faulty(script),
     }
 }
@@ -28,6 +30,7 @@ fn scene(script: &mut Script) {
         17..=20 => power_loop(script),
         21 if script.dice.one_in(12) => whole_sweep(script),
         22 if script.dice.one_in(3) => catalogue(script),
+        23 if script.dice.one_in(3) => every_fault(script),
         _ => faulty(script),
     }
 }
@@ -65,6 +68,7 @@ mod tests {
     use super::*;
     use crate::answer::{answer_all, Session};
     use crate::parse::{call, Call, WatchCall};
+    use crate::tally::kind;
     use std::collections::{BTreeMap, BTreeSet};
 
     fn made(seed: u64, count: u64) -> Vec<u8> {
@@ -94,17 +98,146 @@ mod tests {
     }
 
     #[test]
-    fn every_kind_of_answer_occurs() {
+    fn every_kind_of_answer_occurs_and_no_other() {
         let mut answers = Vec::new();
         answer_all(&mut &made(1, 20_000)[..], &mut answers).unwrap();
-        let answers = String::from_utf8(answers).unwrap();
-        for kind in [
-            "accepted", "hundredths ", "float ", "next ", "done", "visited ", "camp ", "read ", "no beam ", "count ",
-            "wait", "stay", "move ", "par ", "error line ", "refused 1", "refused 2", "refused 3", "refused 4",
-            "refused 5", "refused 6", "refused 7", "refused 8",
+        let mut times: BTreeMap<String, usize> = BTreeMap::new();
+        for answer in String::from_utf8(answers).unwrap().lines() {
+            *times.entry(kind(answer)).or_default() += 1;
+        }
+        let expected = [
+            "accepted", "hundredths", "float", "next", "done", "visited", "camp", "read", "no beam", "count", "wait",
+            "stay", "move", "par", "error", "refused 1", "refused 2", "refused 3", "refused 4", "refused 6",
+            "refused 7", "refused 8", "refused 11", "refused 12 at", "refused 13 at", "refused 14 at",
+        ];
+        assert_eq!(times.keys().map(String::as_str).collect::<BTreeSet<_>>(), BTreeSet::from(expected));
+        assert!(times.values().all(|times| *times >= 10), "{times:?}");
+    }
+
+    /// A list of a session, the channel that serves when it comes, and its answer.
+    struct Told {
+        serving: Option<u16>,
+        list: Vec<u16>,
+        answer: String,
+    }
+
+    /// The lists of a session.
+    fn lists_told(session: &[u8]) -> Vec<Told> {
+        let (mut session_now, mut lists) = (Session::fresh(), vec![]);
+        for line in session.split(|byte| *byte == b'\n') {
+            let serving = session_now.watch.serving();
+            let Some(answer) = session_now.answer_line(0, line) else { continue };
+            if let Some(Call::Watch(WatchCall::List(list))) = call(line) {
+                lists.push(Told { serving, list, answer });
+            }
+        }
+        lists
+    }
+
+    /// How often each answer was given.
+    fn times_of(lists: &[Told]) -> BTreeMap<&str, usize> {
+        let mut times = BTreeMap::new();
+        for told in lists {
+            *times.entry(told.answer.as_str()).or_default() += 1;
+        }
+        times
+    }
+
+    /// The refusals that tell each of these numbers at each place that it can have.
+    fn at_every_place(numbers: &[u8]) -> BTreeSet<String> {
+        let first = |number: u8| usize::from(number == 13);
+        numbers.iter().flat_map(|n| (first(*n)..6).map(move |place| format!("refused {n} at {place}"))).collect()
+    }
+
+    #[test]
+    fn a_watch_is_told_every_fault_at_every_place_and_takes_many_lists() {
+        let mut lists = lists_told(&made(1, 60_000));
+        lists.retain(|told| told.serving.is_some());
+        let times = times_of(&lists);
+        let mut expected = at_every_place(&[12, 13, 14]);
+        expected.extend(["accepted".to_string(), "refused 11".to_string()]);
+        assert_eq!(times.keys().map(|answer| answer.to_string()).collect::<BTreeSet<_>>(), expected);
+        assert!(times.values().all(|times| *times >= 20), "{times:?}");
+        assert!(3 * times["accepted"] >= lists.len(), "{times:?}");
+        for (channel, place) in [1_088, 65_535].iter().flat_map(|channel| (0..6).map(move |place| (channel, place))) {
+            let answer = format!("refused 12 at {place}");
+            assert!(lists.iter().any(|told| told.answer == answer && told.list[place] == *channel), "{answer}");
+        }
+    }
+
+    #[test]
+    fn an_idle_watch_is_told_every_fault_but_the_serving_channel() {
+        let mut lists: Vec<Told> = (0..60).flat_map(|seed| lists_told(&made(seed, 300))).collect();
+        lists.retain(|told| told.serving.is_none());
+        let times = times_of(&lists);
+        let mut expected = at_every_place(&[12, 13]);
+        expected.extend(["refused 6".to_string(), "refused 11".to_string()]);
+        assert_eq!(times.keys().map(|answer| answer.to_string()).collect::<BTreeSet<_>>(), expected);
+        assert!(times.values().all(|times| *times >= 10), "{times:?}");
+    }
+
+    /// The faults of a list by rising place: 12 above 1,087, 14 the serving channel, 13 any other repeat.
+    fn faults(told: &Told) -> Vec<(usize, u8)> {
+        let number = |place: usize| match told.list[place] {
+            channel if channel > 1_087 => Some(12),
+            channel if told.serving == Some(channel) => Some(14),
+            channel if told.list[..place].contains(&channel) => Some(13),
+            _ => None,
+        };
+        (0..told.list.len()).filter_map(|place| Some((place, number(place)?))).collect()
+    }
+
+    #[test]
+    fn faults_come_together_in_either_order() {
+        let lists = lists_told(&made(1, 60_000));
+        let mut times: BTreeMap<(bool, Vec<u8>), usize> = BTreeMap::new();
+        for told in &lists {
+            let numbers = faults(told).iter().map(|(_, number)| *number).collect();
+            *times.entry((told.list.len() > 6, numbers)).or_default() += 1;
+        }
+        let often = |long: bool, numbers: &[u8]| {
+            let found = times.get(&(long, numbers.to_vec())).copied().unwrap_or(0);
+            assert!(found >= 5, "over 6 {long}: {numbers:?} {found}");
+        };
+        for numbers in [
+            &[12][..], &[13], &[14], &[12, 13], &[13, 12], &[12, 14], &[14, 12], &[13, 14], &[14, 13], &[12, 12],
+            &[13, 13], &[14, 14], &[12, 12, 12], &[14, 14, 14],
         ] {
-            let times = answers.lines().filter(|answer| answer.starts_with(kind)).count();
-            assert!(times >= 10, "{kind} {times}");
+            often(false, numbers);
+        }
+        for numbers in [&[][..], &[12], &[13], &[14]] {
+            often(true, numbers);
+        }
+    }
+
+    #[test]
+    fn repeats_stand_at_every_two_places() {
+        let mut pairs = BTreeSet::new();
+        for told in lists_told(&made(1, 60_000)).iter().filter(|told| told.list.len() == 6) {
+            if let [(later, 13)] = faults(told)[..] {
+                pairs.insert((told.list.iter().position(|channel| *channel == told.list[later]).unwrap(), later));
+            }
+        }
+        assert_eq!(pairs.len(), 15);
+    }
+
+    #[test]
+    fn a_list_in_another_order_is_told_another_fault() {
+        let lists = lists_told(&made(1, 60_000));
+        let sorted = |told: &Told| {
+            let mut list = told.list.clone();
+            list.sort_unstable();
+            list
+        };
+        let mut changes: BTreeSet<(String, String)> = BTreeSet::new();
+        for two in lists.windows(2) {
+            if sorted(&two[0]) == sorted(&two[1]) {
+                changes.insert((kind(&two[0].answer), kind(&two[1].answer)));
+            }
+        }
+        for (one, other) in [(12, 13), (13, 12), (12, 14), (14, 12), (13, 14), (14, 13)] {
+            let change = (format!("refused {one} at"), format!("refused {other} at"));
+            assert!(changes.contains(&change), "{change:?}");
         }
     }
 

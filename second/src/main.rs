@@ -15,6 +15,7 @@ mod power;
 mod reading;
 mod refusal;
 mod scene_faulty;
+mod scene_list;
 mod scene_power;
 mod scene_readings;
 mod scene_sweep;

@@ -23,13 +23,14 @@ const BAD_NUMBERS: [&str; 48] = [
 ];
 
 /// Lines with a wrong number of words, or words that are none of the format's.
-const WRONG_LINES: [&str; 51] = [
+const WRONG_LINES: [&str; 55] = [
     "level", "level 1 2", "quality", "show", "show level", "show 5", "show level 5 5", "show power 5", "sweep",
     "sweep rest", "sweep rest missed now", "sweep fresh 1", "sweep file", "sweep file 5", "sweep file 5 heard",
     "sweep file 5 heard 1", "sweep file 5 heard 1 2 3", "sweep file 5 missed 1", "sweep next 5", "sweep done",
     "outcome", "outcome 5", "outcome 5 1 1", "outcome 1088 0", "outcome 65535 1", "outcome 5 256", "choose",
     "choose 1 2", "choose 1.5", "start", "start 1 2 3", "start 1 256", "start nan", "list 1 2 3 4 5 6 7 8 9",
-    "list 1 2 3 4 5 6 7 8 9 10 11 12", "list 1 2 x", "list 65536", "move", "move 1 2", "file 5", "file 5 heard -90",
+    "list 1 2 3 4 5 6 7 8 9 10 11 12", "list 1 2 x", "list 65536", "list 7 7 7 7 7 7 7 7 7", "list 1088 65536",
+    "list 1088 x", "list 1 2 3 4 5 6 7 -1", "move", "move 1 2", "file 5", "file 5 heard -90",
     "file 5 herd -90 5", "ask", "ask 1 2", "verdict", "verdict 0x10", "params 1 2 3 4 5 6", "params 1 2 3 4 5 6 7 8",
     "power", "power stop", "step 1 2",
 ];
@@ -118,12 +119,13 @@ fn any_bytes(dice: &mut Dice) -> Vec<u8> {
 }
 
 /// Sound lines whose numbers are dressed as far as the format allows; none of them starts a watch.
-const EDGE_LINES: [&str; 27] = [
+const EDGE_LINES: [&str; 32] = [
     "ask -0", "ask 0000000000", "ask 0000065535", "ask 65535", "move 0000001087", "verdict -0", "verdict 0000006000",
     "verdict -2147483648", "verdict 2147483647", "verdict -0000000001", "choose -0", "level -0000.00", "level 0000000",
     "level -000090", "quality 0.00001", "quality 0.000001", "quality 9999999", "level -99.9999", "level -150.000",
     "level -150.001", "quality 40.0001", "quality 40.00000", "show level -0", "outcome 0001087 0000000000",
-    "start 5 -0", "start -0 0000000032", "start 0000001088 0000000031",
+    "start 5 -0", "start -0 0000000032", "start 0000001088 0000000031", "list 0000001088", "list -0 00",
+    "list 7 0000000007", "list 0000000001 2 3 4 5 0000065535", "list -0 1 2 3 4 5 0000001088",
 ];
 
 /// A run of faulty lines, comments, empty lines, and sound lines at the edge of the format.

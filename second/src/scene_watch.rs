@@ -1,6 +1,7 @@
 //! Scenes of the watch: full means with sums at the turn of a verdict, lists in other orders, dropped channels, moves.
 
-use crate::limits::{DEPTH_RANGE, HIGHEST_CHANNEL, LEVEL_RANGE, MOST_NEIGHBOURS, USUAL_DEPTH};
+use crate::limits::{DEPTH_RANGE, LEVEL_RANGE, MOST_NEIGHBOURS, USUAL_DEPTH};
+use crate::scene_list::{filled_up, idle_lists, neighbours, refused_list, reordered, say_list, serving};
 use crate::script::Script;
 use crate::words::whole_word;
 
@@ -83,18 +84,7 @@ fn refused_start(script: &mut Script, strange: i32) {
 
 /// Eight different channels, often with the ends among them.
 fn eight_channels(script: &mut Script) -> Vec<i32> {
-    let mut channels = vec![];
-    while channels.len() < 8 {
-        let channel = match script.dice.below(8) {
-            0 => script.dice.pick(&[0, 1, 1_086, 1_087]),
-            1..=3 => script.dice.between(0, 20),
-            _ => script.dice.between(0, i32::from(HIGHEST_CHANNEL)),
-        };
-        if !channels.contains(&channel) {
-            channels.push(channel);
-        }
-    }
-    channels
+    filled_up(script, vec![], 8)
 }
 
 /// A serving level, a hysteresis, and neighbours whose sums lie at or about the turn.
@@ -150,48 +140,6 @@ fn spread(script: &mut Script, depth: i32, each: i32, beyond: i32) -> Vec<i32> {
     }
     script.dice.shuffle(&mut levels);
     levels
-}
-
-/// A new list.
-fn say_list(script: &mut Script, list: &[i32]) -> String {
-    let words: Vec<String> = list.iter().map(|channel| format!(" {channel}")).collect();
-    script.say(&format!("list{}", words.concat()))
-}
-
-/// The neighbours as the session has them now.
-fn neighbours(script: &Script) -> Vec<i32> {
-    script.session.watch.neighbours().iter().map(|channel| i32::from(*channel)).collect()
-}
-
-/// The serving channel as the session has it now; 0 for an idle watch.
-fn serving(script: &Script) -> i32 {
-    script.session.watch.serving().map_or(0, i32::from)
-}
-
-/// The same channels in another order.
-fn reordered(script: &mut Script) {
-    let mut list = neighbours(script);
-    script.dice.shuffle(&mut list);
-    say_list(script, &list);
-}
-
-/// A list that is refused: a repeat, the serving channel, one above 1,087, over six, or several of these.
-fn refused_list(script: &mut Script) {
-    let mut list = neighbours(script);
-    for _ in 0..script.dice.pick(&[1, 1, 1, 2]) {
-        match script.dice.below(4) {
-            0 => list.push(list.first().copied().unwrap_or(5)),
-            1 => list.push(serving(script)),
-            2 => list.push(script.dice.pick(&[1_088, 1_089, 4_000, 65_535])),
-            _ => {
-                let size = script.dice.pick(&[7, 8]);
-                list = eight_channels(script)[..size].to_vec();
-            }
-        }
-    }
-    list.truncate(8);
-    script.dice.shuffle(&mut list);
-    say_list(script, &list);
 }
 
 /// A turn that keeps every level: another order, refusals, missed bursts, questions.
@@ -382,7 +330,7 @@ pub fn loose_watch(script: &mut Script) {
     }
     for _ in 0..script.dice.between(30, 120) {
         let channel = script.dice.pick(&channels);
-        match script.dice.below(41) {
+        match script.dice.below(42) {
             0 => loose_start(script, channel),
             1..=3 => loose_list(script, &channels),
             4 | 5 => drop(script.say(&format!("move {channel}"))),
@@ -397,6 +345,7 @@ pub fn loose_watch(script: &mut Script) {
             }
             13 => drop(script.say(&format!("file {channel} missed"))),
             14 => refused_start(script, channel),
+            15 => refused_list(script),
             _ => {
                 let level = script.dice.pick(&levels);
                 let burst = script.heard(level);
@@ -413,14 +362,15 @@ fn loose_start(script: &mut Script, channel: i32) {
     script.say(&line);
 }
 
-/// A list of any of the channels, in any order, with repeats at times.
+/// A list of any of the channels, in any order, at times with one of them at any place once more.
 fn loose_list(script: &mut Script, channels: &[i32]) {
     let mut list = channels.to_vec();
     script.dice.shuffle(&mut list);
     list.retain(|channel| *channel != serving(script));
     list.truncate(script.dice.below(MOST_NEIGHBOURS + 1));
     if script.dice.one_in(6) {
-        list.push(script.dice.pick(channels));
+        let place = script.dice.below(list.len() + 1);
+        list.insert(place, script.dice.pick(channels));
     }
     say_list(script, &list);
 }
@@ -435,6 +385,8 @@ pub fn idle_watch(script: &mut Script) {
         "start 1088 32", "start 65535 0", "start 1088 15", "start 1088 31", "list 5 65535 5", "step failed 0",
         "step 10 20 0", "step 64 0 0", "step failed 4001", "choose 0", "sweep next", "sweep counts", "choose 6001",
     ];
+    let lists = idle_lists(script);
+    lines.extend(lists.iter().map(String::as_str));
     script.dice.shuffle(&mut lines);
     for line in lines {
         script.say(line);

@@ -13,6 +13,13 @@ const REFUSED_STARTS: [&str; 12] = [
     "start 65535 32", "start 0 4", "start 5 32", "start 1087 0", "start 9 255",
 ];
 
+/// Lists that are refused, whatever the watch: over 6 channels, one above 1,087, a repeat, or several of these.
+const REFUSED_LISTS: [&str; 12] = [
+    "list 1 2 3 4 5 6 7", "list 0 1 2 3 4 5 6 7", "list 1088 1 1 3 4 5 6", "list 1088", "list 0 65535",
+    "list 5 6 7 8 9 1088", "list 7 7", "list 1 2 3 4 5 5", "list 1087 0 1087 1088", "list 0 0 0", "list 1088 9 9",
+    "list 9 9 1088",
+];
+
 /// The dice, the lines made so far, and the session that these lines lead to.
 pub struct Script {
     pub dice: Dice,
@@ -48,14 +55,15 @@ impl Script {
 
     /// A line that leaves every record as it is: a comment, a faulty line, a question or a refusal.
     fn aside(&mut self) {
-        let line = match self.dice.below(10) {
+        let line = match self.dice.below(11) {
             0 => b"".to_vec(),
             1 => self.comment(),
             2..=4 => self.surely_faulty(),
             5 => format!("level {}", any_float(&mut self.dice)).into_bytes(),
             6 => format!("quality {}", any_float(&mut self.dice)).into_bytes(),
             7 => self.dice.pick(&REFUSED_STARTS).as_bytes().to_vec(),
-            8 => b"sweep next".to_vec(),
+            8 => self.dice.pick(&REFUSED_LISTS).as_bytes().to_vec(),
+            9 => b"sweep next".to_vec(),
             _ => b"sweep counts".to_vec(),
         };
         self.add(line);

@@ -4,10 +4,12 @@ use crate::lines::next_line;
 use std::collections::BTreeMap;
 use std::io::{BufRead, Result, Write};
 
-/// The kind of an answer: its first word, with the second for `refused N` and `no beam`.
-fn kind(answer: &str) -> String {
+/// The kind of an answer: its first word, with the second for `refused N` and `no beam`, and with `at` for a refusal
+/// that tells a place, whichever place it is.
+pub fn kind(answer: &str) -> String {
     let words: Vec<&str> = answer.split(' ').collect();
     match words[..] {
+        ["refused", number, "at", ..] => format!("refused {number} at"),
         ["refused" | "no", second, ..] => format!("{} {second}", words[0]),
         _ => words[0].to_string(),
     }
@@ -38,5 +40,15 @@ mod tests {
         tally(&mut answers.as_bytes(), &mut written).unwrap();
         let expected = "accepted: 2\nerror: 1\nmove: 1\nno beam: 1\nrefused 1: 1\nrefused 7: 1\nall: 7\n";
         assert_eq!(String::from_utf8(written).unwrap(), expected);
+    }
+
+    #[test]
+    fn a_refusal_with_a_place_is_one_kind_for_all_places() {
+        for (answer, expected) in [
+            ("refused 1", "refused 1"), ("refused 11", "refused 11"), ("refused 12 at 0", "refused 12 at"),
+            ("refused 12 at 5", "refused 12 at"), ("refused 13 at 1", "refused 13 at"),
+        ] {
+            assert_eq!(kind(answer), expected);
+        }
     }
 }

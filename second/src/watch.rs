@@ -1,6 +1,6 @@
 //! The plain watch of document 01: a serving channel or none, a set of neighbours and, for each channel
-//! under watch, the levels filed since it came under watch, oldest first. Places in a list do not exist here.
-//! Where document 01 says 15, the watch reads its depth (request E8).
+//! under watch, the levels filed since it came under watch, oldest first. A place in a list exists only for the
+//! refusal of a faulty one (request E2). Where document 01 says 15, the watch reads its depth (request E8).
 
 use crate::limits::{DEPTH_RANGE, HIGHEST_CHANNEL, HYSTERESIS_RANGE, MOST_NEIGHBOURS};
 use crate::reading::{heard_level, Burst};
@@ -66,18 +66,33 @@ impl Watch {
         Ok(())
     }
 
-    /// Refusal 5: over 6 channels, one above 1,087, a repeat, or the serving channel.
-    fn list_is_faulty(&self, list: &[u16]) -> bool {
-        let different: BTreeSet<u16> = list.iter().copied().collect();
-        list.len() > MOST_NEIGHBOURS
-            || list.iter().any(|channel| *channel > HIGHEST_CHANNEL)
-            || different.len() < list.len()
-            || list.iter().any(|channel| self.serving == Some(*channel))
+    /// The fault of one place of a list, in the order of request E2: range, serving, repeat of an earlier place.
+    fn fault_at(&self, list: &[u16], place: usize) -> Option<Refusal> {
+        let channel = list[place];
+        if channel > HIGHEST_CHANNEL {
+            Some(Refusal::ListRange(place))
+        } else if self.serving == Some(channel) {
+            Some(Refusal::ListServing(place))
+        } else if list[..place].contains(&channel) {
+            Some(Refusal::ListRepeat(place))
+        } else {
+            None
+        }
+    }
+
+    /// Rule "places are looked at in rising order and the first faulty one is told".
+    fn first_fault(&self, list: &[u16]) -> Option<Refusal> {
+        (0..list.len()).find_map(|place| self.fault_at(list, place))
     }
 
     /// Rule "new list": kept channels keep their levels, dropped ones lose them, new ones have none.
     pub fn new_list(&mut self, list: &[u16]) -> Result<(), Refusal> {
-        judge(&[(Refusal::List, self.list_is_faulty(list)), (Refusal::NotWatched, self.serving.is_none())])?;
+        let mut faults = vec![
+            (Refusal::LongList, list.len() > MOST_NEIGHBOURS),
+            (Refusal::NotWatched, self.serving.is_none()),
+        ];
+        faults.extend(self.first_fault(list).map(|fault| (fault, true)));
+        judge(&faults)?;
         self.neighbours = list.iter().copied().collect();
         let mut under_watch = self.neighbours.clone();
         under_watch.extend(self.serving);
@@ -258,7 +273,7 @@ mod tests {
         assert_eq!((watch.ask(1), watch.ask(2)), (Ok((4, -100)), Ok((2, -200))));
         assert_eq!(watch.move_to(2), Err(Refusal::NotWatched));
         assert_eq!(watch.move_to(9), Err(Refusal::NotWatched));
-        assert_eq!(watch.new_list(&[2]), Err(Refusal::List));
+        assert_eq!(watch.new_list(&[2]), Err(Refusal::ListServing(0)));
         assert_eq!(watch.new_list(&[1]), Ok(()));
     }
 
@@ -404,27 +419,195 @@ mod tests {
         }
     }
 
-    #[test]
-    fn faulty_lists_are_refused() {
+    /// A watch on 10 with two neighbours, of which one has levels.
+    fn on_10() -> Watch {
         let mut watch = watching(10, &[1, 2]);
-        let before = watch.clone();
-        assert_eq!(watch.new_list(&[1, 2, 3, 4, 5, 6, 7]), Err(Refusal::List));
-        assert_eq!(watch.new_list(&[1, 2, 1]), Err(Refusal::List));
-        assert_eq!(watch.new_list(&[1_088]), Err(Refusal::List));
-        assert_eq!(watch.new_list(&[1, 10]), Err(Refusal::List));
-        assert_eq!(watch, before);
+        fill(&mut watch, 1, 3, -100);
+        watch
+    }
+
+    /// The refusal of a list on this watch, which a refused list must leave as it was.
+    fn refusal_of(watch: &Watch, list: &[u16]) -> Refusal {
+        let mut after = watch.clone();
+        let refusal = after.new_list(list).unwrap_err();
+        assert_eq!(&after, watch, "{list:?}");
+        refusal
+    }
+
+    #[test]
+    fn each_fault_of_a_list_has_its_number_and_its_place() {
+        let watch = on_10();
+        for (list, number, place) in [
+            (&[1, 2, 3, 4, 5, 6, 7][..], 11, None),
+            (&[1, 1_088, 2], 12, Some(1)),
+            (&[1, 2, 1], 13, Some(2)),
+            (&[10, 1, 2], 14, Some(0)),
+        ] {
+            let refusal = refusal_of(&watch, list);
+            assert_eq!((refusal.number(), refusal.place()), (number, place), "{list:?}");
+        }
+    }
+
+    #[test]
+    fn a_sound_list_has_up_to_6_channels_of_the_whole_range() {
+        let mut watch = on_10();
         assert_eq!(watch.new_list(&[1, 2, 3, 4, 5, 1_087]), Ok(()));
+        assert_eq!(watch.new_list(&[1_087, 0, 9, 11, 1, 2]), Ok(()));
+        assert_eq!(watch.ask(1), Ok((3, -100)));
         assert_eq!(watch.new_list(&[]), Ok(()));
         assert!(watch.neighbours().is_empty());
     }
 
     #[test]
+    fn over_6_channels_are_told_before_any_place() {
+        for watch in [on_10(), Watch::default()] {
+            for list in [
+                &[1, 2, 3, 4, 5, 6, 7][..],
+                &[1, 2, 3, 4, 5, 6, 7, 8],
+                &[1_088, 2, 3, 4, 5, 6, 7],
+                &[1, 2, 3, 4, 5, 6, 65_535],
+                &[10, 2, 3, 4, 5, 6, 7, 8],
+                &[1, 2, 3, 4, 5, 6, 7, 10],
+                &[1, 1, 3, 4, 5, 6, 7],
+                &[1, 1, 1, 1, 1, 1, 1, 1],
+                &[1_088; 7],
+                &[10; 8],
+            ] {
+                assert_eq!(refusal_of(&watch, list), Refusal::LongList, "{list:?}");
+            }
+        }
+    }
+
+    #[test]
+    fn each_fault_is_told_at_every_place() {
+        let watch = on_10();
+        for size in 1..=6 {
+            for place in 0..size {
+                let mut list: Vec<u16> = (1..=6).take(size).collect();
+                for above in [1_088, 1_089, 2_058, 65_535] {
+                    list[place] = above;
+                    assert_eq!(refusal_of(&watch, &list), Refusal::ListRange(place));
+                    assert_eq!(refusal_of(&Watch::default(), &list), Refusal::ListRange(place));
+                }
+                list[place] = 10;
+                assert_eq!(refusal_of(&watch, &list), Refusal::ListServing(place));
+                assert_eq!(refusal_of(&Watch::default(), &list), Refusal::NotWatched);
+            }
+        }
+    }
+
+    #[test]
+    fn a_repeat_is_told_at_its_later_place() {
+        for later in 1..6 {
+            for earlier in 0..later {
+                let mut list = [1, 2, 3, 4, 5, 6];
+                list[later] = list[earlier];
+                assert_eq!(refusal_of(&on_10(), &list), Refusal::ListRepeat(later));
+                assert_eq!(refusal_of(&Watch::default(), &list), Refusal::ListRepeat(later));
+            }
+        }
+    }
+
+    #[test]
+    fn of_several_faulty_places_the_first_is_told() {
+        let watch = on_10();
+        for (list, told) in [
+            (&[1_088, 1, 1][..], Refusal::ListRange(0)),
+            (&[1, 1_088, 1], Refusal::ListRange(1)),
+            (&[1, 1, 1_088], Refusal::ListRepeat(1)),
+            (&[10, 1, 1], Refusal::ListServing(0)),
+            (&[1, 10, 1], Refusal::ListServing(1)),
+            (&[1, 1, 10], Refusal::ListRepeat(1)),
+            (&[1, 10, 1_088], Refusal::ListServing(1)),
+            (&[1, 1_088, 10], Refusal::ListRange(1)),
+            (&[1, 10, 2, 10], Refusal::ListServing(1)),
+            (&[1, 2, 1_088, 1_088], Refusal::ListRange(2)),
+            (&[1, 2_000, 1_088], Refusal::ListRange(1)),
+            (&[3, 1, 2, 1, 1], Refusal::ListRepeat(3)),
+            (&[1, 2, 2, 1], Refusal::ListRepeat(2)),
+            (&[10, 10, 10], Refusal::ListServing(0)),
+            (&[1_088, 1_088, 1_088], Refusal::ListRange(0)),
+            (&[1, 2, 3, 2, 10, 1_088], Refusal::ListRepeat(3)),
+            (&[1, 2, 3, 1_088, 10, 2], Refusal::ListRange(3)),
+            (&[1, 2, 3, 10, 2, 1_088], Refusal::ListServing(3)),
+        ] {
+            assert_eq!(refusal_of(&watch, list), told, "{list:?}");
+        }
+    }
+
+    #[test]
+    fn at_one_place_the_order_is_range_serving_repeat() {
+        let watch = on_10();
+        assert_eq!(watch.fault_at(&[1_088, 1_088], 1), Some(Refusal::ListRange(1)));
+        assert_eq!(watch.fault_at(&[10, 10], 1), Some(Refusal::ListServing(1)));
+        assert_eq!(watch.fault_at(&[5, 5], 1), Some(Refusal::ListRepeat(1)));
+        assert_eq!(watch.fault_at(&[5, 6], 1), None);
+    }
+
+    /// Every list of up to four of these channels.
+    fn short_lists(channels: &[u16]) -> Vec<Vec<u16>> {
+        let (mut all, mut longest) = (vec![vec![]], vec![vec![]]);
+        for _ in 0..4 {
+            longest = longest
+                .iter()
+                .flat_map(|list: &Vec<u16>| channels.iter().map(|channel| [&list[..], &[*channel]].concat()))
+                .collect();
+            all.extend(longest.iter().cloned());
+        }
+        all
+    }
+
+    #[test]
+    fn a_told_place_has_one_fault_and_all_before_it_have_none() {
+        let watch = on_10();
+        for list in short_lists(&[1, 2, 10, 1_087, 1_088, 65_535]) {
+            let faults_at = |place: usize| {
+                let channel = list[place];
+                let repeats = list[..place].contains(&channel);
+                [(12, channel > 1_087), (13, repeats), (14, channel == 10)].into_iter().filter(|(_, holds)| *holds)
+            };
+            let first = (0..list.len()).find(|place| faults_at(*place).count() > 0);
+            let Some(first) = first else {
+                assert_eq!(watch.clone().new_list(&list), Ok(()), "{list:?}");
+                continue;
+            };
+            let told = refusal_of(&watch, &list);
+            // What the order at one place decides cannot be seen in an answer: of two faults there, an earlier place
+            // has the other already.
+            let faults: Vec<(u8, bool)> = faults_at(first).collect();
+            assert_eq!((faults, Some(first)), (vec![(told.number(), true)], told.place()), "{list:?}");
+        }
+    }
+
+    #[test]
+    fn an_idle_watch_has_no_serving_channel_and_tells_the_group_before_6() {
+        let watch = Watch::default();
+        for list in [&[][..], &[0], &[10], &[0, 10, 1_087], &[1, 2, 3, 4, 5, 6]] {
+            assert_eq!(refusal_of(&watch, list), Refusal::NotWatched);
+        }
+        assert_eq!(refusal_of(&watch, &[0, 0]), Refusal::ListRepeat(1));
+        assert_eq!(refusal_of(&watch, &[1_088]), Refusal::ListRange(0));
+        assert_eq!(refusal_of(&watch, &[0, 1, 0, 1_088]), Refusal::ListRepeat(2));
+        assert_eq!(refusal_of(&watch, &[0, 1_088, 0]), Refusal::ListRange(1));
+        for list in short_lists(&[0, 10, 1_087, 1_088]) {
+            assert!(!matches!(refusal_of(&watch, &list), Refusal::ListServing(_)), "{list:?}");
+        }
+    }
+
+    #[test]
+    fn the_serving_channel_of_a_list_is_the_one_of_now() {
+        let mut watch = on_10();
+        watch.move_to(2).unwrap();
+        assert_eq!(refusal_of(&watch, &[10, 1, 2]), Refusal::ListServing(2));
+        assert_eq!(watch.new_list(&[10, 1]), Ok(()));
+        watch.start(0, 15).unwrap();
+        assert_eq!(refusal_of(&watch, &[2, 0]), Refusal::ListServing(1));
+        assert_eq!(watch.new_list(&[2, 10]), Ok(()));
+    }
+
+    #[test]
     fn an_idle_watch_refuses_as_the_papers_say() {
         let mut watch = Watch::default();
-        assert_eq!(watch.new_list(&[1, 1]), Err(Refusal::List));
-        for list in [&[][..], &[0], &[1, 2]] {
-            assert_eq!(watch.new_list(list), Err(Refusal::NotWatched));
-        }
         assert_eq!(watch.verdict(-1), Err(Refusal::Parameter));
         assert_eq!(watch.verdict(6_001), Err(Refusal::Parameter));
         assert_eq!(watch.verdict(0), Err(Refusal::NotWatched));
