@@ -1,6 +1,6 @@
-/* What no session reaches, tried through the archive: records that are not well formed, the depth that a watch holds, the calls that no line
- * asks for, empty lists, and the header's names against the numbers of the archive. A damaged record is refused by every call with 9, whatever
- * else is wrong, and is left or handed back as it was. */
+/* What no session reaches, tried through the archive: records that are not well formed, the depth that a watch holds, every kind of faulty list
+ * in both forms, the calls that no line asks for, empty lists, and the header's names against the numbers of the archive. A damaged record is
+ * refused by every call with 9, whatever else is wrong, and is left or handed back as it was. */
 #include "beyond.h"
 
 #include <math.h>
@@ -16,6 +16,11 @@ static const royukezan_power_parameters bad = {127, 30, 0, 60, 10, 10, 3};
 static int is_9(uint32_t refusal)
 {
     return refusal == ROYUKEZAN_RECORD_NOT_WELL_FORMED;
+}
+
+static int list_is(royukezan_list_answer a, uint32_t refusal, uint32_t place)
+{
+    return a.refusal == refusal && a.place == place;
 }
 
 
@@ -101,7 +106,7 @@ static int watch_handed_back(const royukezan_watch *damaged)
         royukezan_watch_file_missed_by_value(*damaged, UINT16_MAX),
     };
     for (size_t i = 0; i < LENGTH(outcomes); i++)
-        if (!is_9(outcomes[i].refusal) || !same_watch(&outcomes[i].watch, damaged))
+        if (!is_9(outcomes[i].refusal) || outcomes[i].place != ROYUKEZAN_NO_PLACE || !same_watch(&outcomes[i].watch, damaged))
             return 0;
     return 1;
 }
@@ -114,7 +119,8 @@ static int watch_refused(const royukezan_watch *damaged)
     return is_9(levels.refusal) && levels.count == 0 && levels.mean == 0
         && is_9(verdict.refusal) && verdict.verdict == 0 && verdict.channel == 0
         && is_9(royukezan_watch_check(damaged)) && is_9(royukezan_watch_start(&lent, 310, 15))
-        && is_9(royukezan_watch_new_list(&lent, NULL, 0)) && is_9(royukezan_watch_move_to(&lent, 42))
+        && list_is(royukezan_watch_new_list(&lent, NULL, 0), ROYUKEZAN_RECORD_NOT_WELL_FORMED, ROYUKEZAN_NO_PLACE)
+        && is_9(royukezan_watch_move_to(&lent, 42))
         && is_9(royukezan_watch_file_heard(&lent, 42, -94.2f, 9.1f)) && is_9(royukezan_watch_file_missed(&lent, 42))
         && same_watch(&lent, damaged) && watch_handed_back(damaged);
 }
@@ -124,7 +130,7 @@ static int sound_watch(royukezan_watch *w)
 {
     static const uint16_t list[] = {42, 118};
     uint32_t refusal = royukezan_watch_start(w, 310, 15);
-    refusal |= royukezan_watch_new_list(w, list, LENGTH(list));
+    refusal |= royukezan_watch_new_list(w, list, LENGTH(list)).refusal;
     refusal |= royukezan_watch_file_heard(w, 42, -94.2f, 9.1f);
     refusal |= royukezan_watch_file_heard(w, 42, -94.2f, 9.1f);
     return refusal == ROYUKEZAN_ACCEPTED && royukezan_watch_check(w) == ROYUKEZAN_ACCEPTED;
@@ -195,7 +201,7 @@ static int watch_start_refused(const royukezan_watch *w, uint16_t serving, size_
     royukezan_watch lent = *w;
     royukezan_watch_outcome o = royukezan_watch_start_by_value(*w, serving, depth);
     return royukezan_watch_start(&lent, serving, depth) == refusal && same_watch(&lent, w)
-        && o.refusal == refusal && same_watch(&o.watch, w);
+        && o.refusal == refusal && o.place == ROYUKEZAN_NO_PLACE && same_watch(&o.watch, w);
 }
 
 /* On a fresh watch and on a sound one: 7 for a depth, also where the channel is none, then 2 for the channel. */
@@ -221,7 +227,7 @@ static int has_depth(royukezan_watch *w, size_t depth)
 {
     static const uint16_t list[] = {42, 118};
     int holds = royukezan_watch_start(w, 310, depth) == ROYUKEZAN_ACCEPTED && w->depth == depth && w->watched == 1
-        && royukezan_watch_new_list(w, list, LENGTH(list)) == ROYUKEZAN_ACCEPTED;
+        && royukezan_watch_new_list(w, list, LENGTH(list)).refusal == ROYUKEZAN_ACCEPTED;
     for (size_t i = 0; i < depth; i++)
         holds = holds && royukezan_watch_verdict(w, 0).verdict == ROYUKEZAN_VERDICT_WAIT && royukezan_watch_ask(w, 310).count == i
             && royukezan_watch_file_heard(w, 310, -98.5f, 7.2f) == ROYUKEZAN_ACCEPTED
@@ -240,6 +246,135 @@ static int depths_are_kept(void)
     for (size_t depth = ROYUKEZAN_DEPTH_LOWEST; depth <= ROYUKEZAN_DEPTH_HIGHEST; depth++)
         kept = kept && has_depth(&w, depth);
     return kept;
+}
+
+
+/* ---- Lists, on an idle watch and on a sound one. */
+
+/* The fault of one place of a list, by the rules: range, serving channel, repeat of an earlier place. */
+static uint32_t fault_at(const royukezan_watch *w, const uint16_t *list, size_t place)
+{
+    if (list[place] >= ROYUKEZAN_CHANNELS)
+        return ROYUKEZAN_LISTED_OUT_OF_RANGE;
+    if (w->watched != 0 && list[place] == w->tracks[0].channel)
+        return ROYUKEZAN_LISTED_SERVING;
+    for (size_t earlier = 0; earlier < place; earlier++)
+        if (list[earlier] == list[place])
+            return ROYUKEZAN_LISTED_AGAIN;
+    return ROYUKEZAN_ACCEPTED;
+}
+
+/* What a new list has to answer, by the rules. */
+static royukezan_list_answer list_answer(const royukezan_watch *w, const uint16_t *list, size_t length)
+{
+    royukezan_list_answer a = {ROYUKEZAN_LIST_TOO_LONG, ROYUKEZAN_NO_PLACE};
+    if (length > ROYUKEZAN_LIST_LIMIT)
+        return a;
+    for (uint32_t place = 0; place < length; place++) {
+        a.refusal = fault_at(w, list, place);
+        a.place = place;
+        if (a.refusal != ROYUKEZAN_ACCEPTED)
+            return a;
+    }
+    a.refusal = w->watched == 0 ? ROYUKEZAN_NOT_WATCHED : ROYUKEZAN_ACCEPTED;
+    a.place = ROYUKEZAN_NO_PLACE;
+    return a;
+}
+
+/* Sets the bytes between the fields as well, so that all the bytes of a watch can be compared. */
+static void paint_padding(royukezan_watch *w)
+{
+    const size_t from = sizeof w->tracks[0].channel;
+    for (size_t i = 0; i < LENGTH(w->tracks); i++)
+        memset((unsigned char *)&w->tracks[i] + from, 0xa5, offsetof(royukezan_track, count) - from);
+}
+
+/* Both forms answer as the rules say. Refused, every byte of a lent watch stays; accepted, it is what the form by value hands back. */
+static int list_told(const royukezan_watch *w, const uint16_t *list, size_t length)
+{
+    const royukezan_list_answer told = list_answer(w, list, length);
+    royukezan_watch lent = *w, before;
+    paint_padding(&lent);
+    memcpy(&before, &lent, sizeof lent);
+    royukezan_watch_outcome o = royukezan_watch_new_list_by_value(lent, list, length);
+    if (o.refusal != told.refusal || o.place != told.place || !list_is(royukezan_watch_new_list(&lent, list, length), told.refusal, told.place))
+        return 0;
+    if (told.refusal == ROYUKEZAN_ACCEPTED)
+        return same_watch(&lent, &o.watch) && lent.watched == 1 + length && royukezan_watch_check(&lent) == ROYUKEZAN_ACCEPTED;
+    return memcmp(&lent, &before, sizeof lent) == 0 && same_watch(&o.watch, w);
+}
+
+/* Every list of so many of these channels. 310 serves in a sound watch, and the five others within the range let a fault come first at any
+ * place; in an idle one nobody serves, not 0 either. */
+static int lists_of(const royukezan_watch *w, size_t length)
+{
+    static const uint16_t channels[] = {0, 42, 118, 205, 310, 1087, 1088, UINT16_MAX};
+    uint16_t list[ROYUKEZAN_LIST_LIMIT] = {0};
+    size_t count = 1;
+    for (size_t i = 0; i < length; i++)
+        count *= LENGTH(channels);
+    for (size_t number = 0; number < count; number++) {
+        size_t rest = number;
+        for (size_t i = 0; i < length; i++, rest /= LENGTH(channels))
+            list[i] = channels[rest % LENGTH(channels)];
+        if (!list_told(w, list, length))
+            return 0;
+    }
+    return 1;
+}
+
+/* Longer lists than a line has, and such as narrower numbers would take for short ones. */
+static int long_lists(const royukezan_watch *w)
+{
+    static const size_t lengths[] = {7, 8, 9, 256, 256 + 2, 65536, 65536 + 2};
+    static uint16_t list[65536 + 2];
+    int told = 1;
+    for (size_t i = 0; i < LENGTH(lengths); i++) {
+        list[0] = 1;
+        list[1] = 2;
+        told = told && list_told(w, list, lengths[i]);
+        list[0] = UINT16_MAX;
+        told = told && list_told(w, list, lengths[i]);
+    }
+    return told;
+}
+
+static int lists_are_told(void)
+{
+    royukezan_watch watches[2] = {royukezan_watch_fresh(), royukezan_watch_fresh()};
+    int told = sound_watch(&watches[1]);
+    for (size_t i = 0; i < LENGTH(watches); i++) {
+        for (size_t length = 0; length <= ROYUKEZAN_LIST_LIMIT; length++)
+            told = told && lists_of(&watches[i], length);
+        told = told && long_lists(&watches[i]);
+    }
+    return told;
+}
+
+/* The other calls tell no place, accepted or refused. */
+static int no_place_is_told(void)
+{
+    royukezan_watch w = royukezan_watch_fresh();
+    if (!sound_watch(&w))
+        return 0;
+    const struct {
+        royukezan_watch_outcome outcome;
+        uint32_t refusal;
+    } calls[] = {
+        {royukezan_watch_start_by_value(w, 310, 15), ROYUKEZAN_ACCEPTED},
+        {royukezan_watch_start_by_value(w, 1088, 15), ROYUKEZAN_CHANNEL_OUT_OF_RANGE},
+        {royukezan_watch_move_to_by_value(w, 42), ROYUKEZAN_ACCEPTED},
+        {royukezan_watch_move_to_by_value(w, 310), ROYUKEZAN_NOT_WATCHED},
+        {royukezan_watch_file_heard_by_value(w, 42, -94.2f, 9.1f), ROYUKEZAN_ACCEPTED},
+        {royukezan_watch_file_heard_by_value(w, 43, -94.2f, 9.1f), ROYUKEZAN_NOT_WATCHED},
+        {royukezan_watch_file_heard_by_value(w, 42, -94.2f, NAN), ROYUKEZAN_READING_OUT_OF_RANGE},
+        {royukezan_watch_file_missed_by_value(w, 42), ROYUKEZAN_ACCEPTED},
+        {royukezan_watch_file_missed_by_value(w, 43), ROYUKEZAN_NOT_WATCHED},
+    };
+    for (size_t i = 0; i < LENGTH(calls); i++)
+        if (calls[i].outcome.refusal != calls[i].refusal || calls[i].outcome.place != ROYUKEZAN_NO_PLACE)
+            return 0;
+    return 1;
 }
 
 
@@ -360,7 +495,7 @@ static int empty_is_taken(void)
 {
     royukezan_sweep s = royukezan_sweep_fresh();
     royukezan_watch w = royukezan_watch_fresh();
-    return sound_watch(&w) && royukezan_watch_new_list(&w, NULL, 0) == ROYUKEZAN_ACCEPTED && w.watched == 1
+    return sound_watch(&w) && list_is(royukezan_watch_new_list(&w, NULL, 0), ROYUKEZAN_ACCEPTED, ROYUKEZAN_NO_PLACE) && w.watched == 1
         && royukezan_watch_ask(&w, 42).refusal == ROYUKEZAN_NOT_WATCHED
         && royukezan_choose(&s, 300, NULL, 0).refusal == ROYUKEZAN_OUTCOMES_FAULTY;
 }
@@ -415,8 +550,8 @@ static int refusals_have_names(void)
         && royukezan_watch_start(&w, ROYUKEZAN_CHANNELS - 1, ROYUKEZAN_DEPTH_HIGHEST + 1) == ROYUKEZAN_PARAMETER_OUT_OF_RANGE
         && royukezan_watch_start(&w, ROYUKEZAN_CHANNELS - 1, ROYUKEZAN_DEPTH_LOWEST) == ROYUKEZAN_ACCEPTED
         && royukezan_watch_start(&w, ROYUKEZAN_CHANNELS - 1, ROYUKEZAN_DEPTH_HIGHEST) == ROYUKEZAN_ACCEPTED
-        && royukezan_watch_new_list(&w, list, ROYUKEZAN_LIST_LIMIT + 1) == ROYUKEZAN_LIST_FAULTY
-        && royukezan_watch_new_list(&w, list, ROYUKEZAN_LIST_LIMIT) == ROYUKEZAN_ACCEPTED;
+        && royukezan_watch_new_list(&w, list, ROYUKEZAN_LIST_LIMIT + 1).refusal == ROYUKEZAN_LIST_TOO_LONG
+        && royukezan_watch_new_list(&w, list, ROYUKEZAN_LIST_LIMIT).refusal == ROYUKEZAN_ACCEPTED;
 }
 
 const char *beyond_sessions(void)
@@ -430,6 +565,8 @@ const char *beyond_sessions(void)
         {depths_refused, "a watch that holds a wrong depth is not refused as it should be"},
         {watch_starts_refused, "a start of a watch that is refused is not refused as it should be, or changes the watch"},
         {depths_are_kept, "a watch does not keep the depth of its start"},
+        {lists_are_told, "a list is not answered as it should be, or a refused one changes the watch"},
+        {no_place_is_told, "a call that tells no place answers one"},
         {damaged_power_refused, "a power record that is not well formed is not refused as it should be"},
         {start_refused, "a power start or step that is refused does not leave the record as it should"},
         {steps_agree, "a power step by value is not the step on a lent record"},

@@ -33,16 +33,32 @@ typedef struct {
 
 /* ---- What the answers are written as. */
 
+/* With the place, where one is told. */
+static int refused_at(uint32_t refusal, uint32_t place)
+{
+    if (refusal == ROYUKEZAN_ACCEPTED)
+        return 0;
+    printf("refused %" PRIu32, refusal);
+    if (place != ROYUKEZAN_NO_PLACE)
+        printf(" at %" PRIu32, place);
+    putchar('\n');
+    return 1;
+}
+
 static int refused(uint32_t refusal)
 {
-    if (refusal != ROYUKEZAN_ACCEPTED)
-        printf("refused %" PRIu32 "\n", refusal);
-    return refusal != ROYUKEZAN_ACCEPTED;
+    return refused_at(refusal, ROYUKEZAN_NO_PLACE);
 }
 
 static void say_accepted(uint32_t refusal)
 {
     if (!refused(refusal))
+        puts("accepted");
+}
+
+static void say_list(royukezan_list_answer a)
+{
+    if (!refused_at(a.refusal, a.place))
         puts("accepted");
 }
 
@@ -171,7 +187,7 @@ static void new_list(session *s, const numbers *n)
     uint16_t list[MOST_WORDS];
     for (size_t i = 0; i < n->whole_count; i++)
         list[i] = (uint16_t)n->wholes[i];
-    say_accepted(royukezan_watch_new_list(&s->watch, list, n->whole_count));
+    say_list(royukezan_watch_new_list(&s->watch, list, n->whole_count));
 }
 
 static void move_to(session *s, const numbers *n)

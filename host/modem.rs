@@ -141,6 +141,14 @@ fn accepted(answer: Result<(), Refusal>) -> Answer {
     Some(answer.map(|()| "accepted".to_string()))
 }
 
+fn refusal_text(refusal: Refusal) -> String {
+    let number = refusal.number();
+    match refusal.place() {
+        Some(place) => format!("refused {number} at {place}"),
+        None => format!("refused {number}"),
+    }
+}
+
 fn next_text(next: Next) -> String {
     match next {
         Next::Channel(channel) => format!("next {channel}"),
@@ -277,7 +285,7 @@ fn answer_session() -> std::io::Result<()> {
         }
         match answer(&mut terminal, &line) {
             Some(Ok(said)) => writeln!(out, "{said}")?,
-            Some(Err(refusal)) => writeln!(out, "refused {}", refusal.number())?,
+            Some(Err(refusal)) => writeln!(out, "{}", refusal_text(refusal))?,
             None => writeln!(out, "error line {number}")?,
         }
     }

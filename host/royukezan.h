@@ -18,9 +18,10 @@
  * and no part of what is proved. royukezan_power_step_decoded and .._failed are functions of the archive under their plain names; refused,
  * they store the same numbers again.
  *
- * Answers. A call that gives no value answers the refusal number alone, 0 for accepted. Every other answer is a struct: first the refusal
- * number, then the values, 0 when refused. Every value of every argument is taken, and every call ends. The functions allocate nothing and
- * keep nothing between calls.
+ * Answers. A call that neither gives a value nor tells a place answers the refusal number alone, 0 for accepted. Every other answer is a
+ * struct: first the refusal number, then the values, 0 when refused. The place of a faulty channel in a list, counted from 0, stands right
+ * after the refusal number (royukezan_list_answer, royukezan_watch_outcome); ROYUKEZAN_NO_PLACE there means that none is told, and an accepted
+ * call has it too. Every value of every argument is taken, and every call ends. The functions allocate nothing and keep nothing between calls.
  *
  * Units. A level or quality as a float is in dBm or dB; in an int32_t, or in the int16_t of a track, it is in whole hundredths of a dB, and so
  * are a margin, a hysteresis and an SQI. PAN and PAR are codes, by 0.4 dB.
@@ -63,20 +64,27 @@ extern "C" {
 #define ROYUKEZAN_DEPTH_HIGHEST 31 /* .. to 31 */
 #define ROYUKEZAN_LEVELS 32        /* the places that a track has for levels, at least the highest depth */
 
-/* The refusal numbers, each given exactly when what stands beside it holds. Several at once: 9, 8, 7, 2, 5, 6, 3, 4, 1. */
+/* What stands for the place where an answer tells none. No place has this value. */
+#define ROYUKEZAN_NO_PLACE 4294967295u
+
+/* The refusal numbers, each given exactly when what stands beside it holds. Several at once: 9, 8, 7, 2, 11, then 12 to 14, 6, 3, 4, 1.
+ * Which of 12 to 14 is given, the first faulty channel of the list decides, and its place is told; the other refusals tell none. */
 enum royukezan_refusal {
     ROYUKEZAN_ACCEPTED = 0,
     ROYUKEZAN_READING_OUT_OF_RANGE = 1,   /* a level or quality, as a float or in hundredths, is outside its range */
     ROYUKEZAN_CHANNEL_OUT_OF_RANGE = 2,   /* a swept channel outside 2 to 1,086; a start channel above 1,087 */
     ROYUKEZAN_CHANNEL_VISITED = 3,        /* a channel already visited in this sweep */
     ROYUKEZAN_SWEEP_UNFINISHED = 4,       /* a choice over an unfinished sweep */
-    ROYUKEZAN_LIST_FAULTY = 5,            /* a list with over 6 channels, one above 1,087, a repeat, or the serving channel */
     ROYUKEZAN_NOT_WATCHED = 6,            /* a filed or asked channel not watched; a move to a channel not in the list; new list or
                                              verdict on an idle watch */
     ROYUKEZAN_PARAMETER_OUT_OF_RANGE = 7, /* a margin, hysteresis or power parameter out of range; PANmin above PANmax; a code above 63;
                                              a depth outside 5 to 31 */
     ROYUKEZAN_OUTCOMES_FAULTY = 8,        /* outcome string not 1,088 long, or a byte above 5 */
-    ROYUKEZAN_RECORD_NOT_WELL_FORMED = 9  /* a record not well formed */
+    ROYUKEZAN_RECORD_NOT_WELL_FORMED = 9, /* a record not well formed */
+    ROYUKEZAN_LIST_TOO_LONG = 11,         /* a list of over 6 channels */
+    ROYUKEZAN_LISTED_OUT_OF_RANGE = 12,   /* a channel of a list above 1,087 */
+    ROYUKEZAN_LISTED_AGAIN = 13,          /* a channel of a list that repeats an earlier one */
+    ROYUKEZAN_LISTED_SERVING = 14         /* the serving channel in a list */
 };
 
 /* The cases of an answer. A refused one has 0. */
@@ -183,6 +191,12 @@ typedef struct royukezan_choice_answer {
     uint32_t tried;   /* the channel's place in the search order, from 1; for no beam, how many channels lie within the margin */
 } royukezan_choice_answer;
 
+/* A new list: accepted, or what is wrong with it and where. */
+typedef struct royukezan_list_answer {
+    uint32_t refusal;
+    uint32_t place; /* of the first faulty channel, counted from 0, with refusals 12 to 14; else ROYUKEZAN_NO_PLACE */
+} royukezan_list_answer;
+
 /* The levels of a watched channel. */
 typedef struct royukezan_levels_answer {
     uint32_t refusal;
@@ -213,6 +227,7 @@ typedef struct royukezan_sweep_outcome {
 
 typedef struct royukezan_watch_outcome {
     uint32_t refusal;
+    uint32_t place; /* of a new list, as in royukezan_list_answer; of any other call ROYUKEZAN_NO_PLACE */
     royukezan_watch watch;
 } royukezan_watch_outcome;
 
@@ -283,6 +298,9 @@ ROYUKEZAN_OFFSET(choice_answer, refusal, 0);
 ROYUKEZAN_OFFSET(choice_answer, choice, 4);
 ROYUKEZAN_OFFSET(choice_answer, channel, 6);
 ROYUKEZAN_OFFSET(choice_answer, tried, 8);
+ROYUKEZAN_SIZE(list_answer, 8);
+ROYUKEZAN_OFFSET(list_answer, refusal, 0);
+ROYUKEZAN_OFFSET(list_answer, place, 4);
 ROYUKEZAN_SIZE(levels_answer, 12);
 ROYUKEZAN_OFFSET(levels_answer, refusal, 0);
 ROYUKEZAN_OFFSET(levels_answer, count, 4);
@@ -300,6 +318,7 @@ ROYUKEZAN_OFFSET(sweep_outcome, refusal, 0);
 ROYUKEZAN_OFFSET(sweep_outcome, sweep, 8);
 ROYUKEZAN_SIZE(watch_outcome, 584);
 ROYUKEZAN_OFFSET(watch_outcome, refusal, 0);
+ROYUKEZAN_OFFSET(watch_outcome, place, 4);
 ROYUKEZAN_OFFSET(watch_outcome, watch, 8);
 ROYUKEZAN_SIZE(power_outcome, 20);
 ROYUKEZAN_OFFSET(power_outcome, refusal, 0);
@@ -433,14 +452,16 @@ static inline uint32_t royukezan_watch_start(royukezan_watch *w, uint16_t servin
 }
 
 /* Replaces the neighbours by a list of 0 to 6 channels. A channel that was watched keeps its levels, whichever place it moves to; a dropped one
- * loses them; a new one has none. The depth stays. Writes *w when accepted. Refusals 9, 5, 6. */
-static inline uint32_t royukezan_watch_new_list(royukezan_watch *w, const uint16_t *list, size_t length)
+ * loses them; a new one has none. The depth stays. Writes *w when accepted. Refusals 9, 11, then 12 to 14 with the place of the first faulty
+ * channel, 6. */
+static inline royukezan_list_answer royukezan_watch_new_list(royukezan_watch *w, const uint16_t *list, size_t length)
 {
     const uint16_t none = 0;
     royukezan_watch_outcome o = royukezan_watch_new_list_by_value(*w, length == 0 ? &none : list, length);
+    royukezan_list_answer a = {o.refusal, o.place};
     if (o.refusal == ROYUKEZAN_ACCEPTED)
         *w = o.watch;
-    return o.refusal;
+    return a;
 }
 
 /* Moves to a neighbour: it serves now, and the channel that served takes its place in the list; both keep their levels, and the depth stays.
@@ -535,13 +556,13 @@ royukezan_sent_answer royukezan_power_step_failed(royukezan_power_record *r, roy
  *     royukezan_sweep_next              9500   9500
  *     royukezan_sweep_counts            9300   9300
  *     royukezan_sweep_check             9300   9300
- *     royukezan_choose                 13800  13800
+ *     royukezan_choose                 13900  13900
  *     royukezan_watch_fresh              700
- *     royukezan_watch_start             2000   1900
+ *     royukezan_watch_start             2100   2100
  *     royukezan_watch_new_list          2800   2800
- *     royukezan_watch_move_to           2500   2500
- *     royukezan_watch_file_heard        3800   3800
- *     royukezan_watch_file_missed       3800   3800
+ *     royukezan_watch_move_to           1900   1900
+ *     royukezan_watch_file_heard        3200   3200
+ *     royukezan_watch_file_missed       3200   3200
  *     royukezan_watch_ask               1400   1400
  *     royukezan_watch_verdict           1400   1400
  *     royukezan_watch_check              700    700

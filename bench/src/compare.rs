@@ -4,18 +4,25 @@
 use crate::calls::{Call, PowerCall, SweepCall, WatchCall};
 use crate::dice::Dice;
 use crate::floats::turning_bits;
-use crate::library::{refusal_of, told, Library, Record};
+use crate::library::{list_refusals, refusal_of, told, Library, Record, Refused};
 use crate::made_up;
 use crate::ours::Ours;
 use crate::plain::{Sweep, Watch, CHANNELS};
 use crate::plain_calls::Plain;
+use std::collections::{BTreeMap, BTreeSet};
 use std::fmt::Debug;
 
 /// How many answers were compared, and how many of them are each refusal; the first that differs ends the program.
 #[derive(Default)]
 pub struct Compared {
     count: u64,
-    refused: [u64; 10],
+    refused: BTreeMap<Refused, u64>,
+}
+
+/// Every refusal that there is, with each place that it can tell.
+fn refusals() -> BTreeSet<Refused> {
+    let without_place = [1, 2, 3, 4, 6, 7, 8, 9].map(|number| Refused::new(number, None));
+    list_refusals().into_iter().chain(without_place).collect()
 }
 
 impl Compared {
@@ -23,20 +30,32 @@ impl Compared {
     pub fn answer(&mut self, what: impl FnOnce() -> String, ours: u64, plain: u64) {
         self.count += 1;
         if let Some(refusal) = refusal_of(ours) {
-            self.refused[refusal] += 1;
+            *self.refused.entry(refusal).or_default() += 1;
         }
         if ours != plain {
             differs(what(), &worded(ours), &worded(plain));
         }
     }
 
-    /// Says how much was compared. No refusal may be missing, or the comparison would not be what it should be.
+    /// How many answers are each refusal, whichever place is told.
+    fn by_number(&self) -> BTreeMap<u32, u64> {
+        let mut numbers = BTreeMap::new();
+        for (refusal, count) in &self.refused {
+            *numbers.entry(refusal.number()).or_default() += count;
+        }
+        numbers
+    }
+
+    /// Says how much was compared. No refusal and no place may be missing, or the comparison would not be what it
+    /// should be.
     pub fn report(&self) {
         println!("bench: {} answers compared, all the same", self.count);
-        let refusals: Vec<String> = (1..=9).map(|refusal| format!("{refusal}: {}", self.refused[refusal])).collect();
-        println!("bench: of these are refused, by number: {}", refusals.join(", "));
-        if self.refused[1..].contains(&0) {
-            println!("bench: a refusal was not met");
+        let refused: Vec<String> = self.by_number().iter().map(|(n, count)| format!("{n}: {count}")).collect();
+        println!("bench: of these are refused, by number: {}", refused.join(", "));
+        let met: BTreeSet<Refused> = self.refused.keys().copied().collect();
+        let odd = &met ^ &refusals();
+        if !odd.is_empty() {
+            println!("bench: not met, or met where there is no such refusal: {odd:?}");
             std::process::exit(1);
         }
     }
@@ -44,7 +63,7 @@ impl Compared {
 
 /// An answer in words.
 fn worded(answer: u64) -> String {
-    refusal_of(answer).map_or_else(|| format!("{answer:#x}"), |refusal| format!("refusal {refusal}"))
+    refusal_of(answer).map_or_else(|| format!("{answer:#x}"), |refusal| format!("{refusal:?}"))
 }
 
 fn differs(what: String, ours: &str, plain: &str) -> ! {
@@ -200,6 +219,20 @@ fn compare_watches(compared: &mut Compared) {
     }
 }
 
+/// Every list of a few channels, and some that are too long, on watches and on an idle one.
+fn compare_lists(compared: &mut Compared) {
+    let lists = made_up::every_list(&Dice::new(19));
+    for calls in made_up::before_lists() {
+        let mut pair = Pair::of(&Watch::fresh());
+        for call in &calls {
+            pair.call(compared, call);
+        }
+        for list in &lists {
+            Pair::of(&pair.plain).call(compared, &WatchCall::NewList(list.clone()));
+        }
+    }
+}
+
 /// Verdicts and means of every depth where sums are equal, or apart by a hysteresis exactly; then each call, a filing
 /// where the oldest level goes among them.
 fn compare_close_watches(compared: &mut Compared) {
@@ -244,6 +277,7 @@ pub fn compare_calls(compared: &mut Compared) {
     compare_damaged_sweeps(compared);
     compare_choices(compared);
     compare_watches(compared);
+    compare_lists(compared);
     compare_close_watches(compared);
     compare_power(compared);
 }

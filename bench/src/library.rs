@@ -1,11 +1,50 @@
 //! The calls of one side, so that the same code compares and times both. Answers and records are told in the types of
-//! the plain Rust, refusals by their numbers.
+//! the plain Rust, refusals by their numbers and places.
 
 use crate::plain::{Burst, Choice, Levels, PowerParameters, PowerRecord, Sent, Sweep, Verdict, Watch};
-use std::fmt::Debug;
+use std::collections::BTreeSet;
+use std::fmt::{self, Debug};
+use std::ops::Range;
 
-/// What a call answers, or the number of its refusal.
-pub type Answer<T> = Result<T, u32>;
+/// A refusal by its number and the place that is told with it, if one is. It is one word, so that an answer with it is
+/// as small as one with a number: the place and 1 stand above the number, or 0.
+#[derive(Clone, Copy, PartialEq, Eq, PartialOrd, Ord)]
+pub struct Refused(u32);
+
+const NUMBER_BITS: u32 = 8;
+
+impl Refused {
+    #[inline(always)]
+    pub fn new(number: u32, place: Option<u16>) -> Refused {
+        let told = place.map_or(0, |place| u32::from(place) + 1);
+        Refused(told << NUMBER_BITS | number)
+    }
+
+    pub fn number(self) -> u32 {
+        self.0 % (1 << NUMBER_BITS)
+    }
+
+    pub fn place(self) -> Option<u32> {
+        (self.0 >> NUMBER_BITS).checked_sub(1)
+    }
+}
+
+impl Debug for Refused {
+    fn fmt(&self, f: &mut fmt::Formatter) -> fmt::Result {
+        write!(f, "refusal {}", self.number())?;
+        self.place().map_or(Ok(()), |place| write!(f, " at {place}"))
+    }
+}
+
+/// Every refusal of a faulty list, with each place that it can tell. The first place repeats none.
+pub fn list_refusals() -> BTreeSet<Refused> {
+    let at = |number, places: Range<u16>| places.map(move |place| Refused::new(number, Some(place)));
+    let long = Refused::new(11, None);
+    at(12, 0..6).chain(at(13, 1..6)).chain(at(14, 0..6)).chain([long]).collect()
+}
+
+/// What a call answers, or its refusal.
+pub type Answer<T> = Result<T, Refused>;
 
 /// A record of one side.
 pub trait Record: Clone {
@@ -95,9 +134,10 @@ impl Told for (u32, u32) {
     }
 }
 
+/// The sign of the first is turned, so that no level has one of the last numbers, which tell refusals.
 impl Told for (i32, i32) {
     fn number(self) -> u64 {
-        (self.0 as u32, self.1 as u32).number()
+        ((self.0 ^ i32::MIN) as u32, self.1 as u32).number()
     }
 }
 
@@ -137,11 +177,10 @@ impl Told for Sent {
 /// An answer as a number. Refusals have the last ones, which no value has.
 #[inline(always)]
 pub fn told<T: Told>(answer: Answer<T>) -> u64 {
-    answer.map_or_else(|refusal| u64::MAX - u64::from(refusal), T::number)
+    answer.map_or_else(|refusal| u64::MAX - u64::from(refusal.0), T::number)
 }
 
 /// The refusal that a number tells, or none.
-pub fn refusal_of(answer: u64) -> Option<usize> {
-    let refusal = u64::MAX - answer;
-    (refusal <= 9).then_some(refusal as usize)
+pub fn refusal_of(answer: u64) -> Option<Refused> {
+    u32::try_from(u64::MAX - answer).ok().map(Refused)
 }

@@ -138,7 +138,8 @@ pub fn close_watch(dice: &Dice) -> Watch {
     watch
 }
 
-/// A list of channels from 0 to 8, in some order, now and then too long, with a repeat or with another channel.
+/// A list of channels from 0 to 8, in some order, now and then too long, with a repeat or with another channel at any
+/// place.
 fn list(dice: &Dice) -> Vec<u16> {
     let length = dice.one_of(&[0, 1, 2, 3, 4, 5, 6, 6, 6, 7, 8]);
     let first = dice.below(9) as u16;
@@ -146,10 +147,39 @@ fn list(dice: &Dice) -> Vec<u16> {
     if dice.once_in(2) {
         list.reverse();
     }
-    if dice.once_in(5) {
-        list.push(dice.one_of(&[0, 1, 2, 3, 1_087, 1_088, 65_535]));
+    while dice.once_in(4) {
+        let place = dice.below(list.len() as u32 + 1) as usize;
+        list.insert(place, dice.one_of(&[0, 1, 2, 3, 1_087, 1_088, 65_535]));
     }
     list
+}
+
+/// What the lists below are made of: one above the range, and enough within it for a first fault at any place.
+const LISTED: [u16; 7] = [0, 5, 7, 9, 11, 1_087, 1_088];
+
+/// Every list of up to 6 of these channels, and some that are too long.
+pub fn every_list(dice: &Dice) -> Vec<Vec<u16>> {
+    let mut lists = vec![vec![]];
+    // Each list is taken up once, and lengthened by each channel.
+    for at in 0.. {
+        if lists[at].len() == 6 {
+            break;
+        }
+        lists.extend(LISTED.map(|channel| [&lists[at][..], &[channel]].concat()));
+    }
+    let too_long = |_| (0..dice.between(7, 12)).map(|_| dice.one_of(&LISTED)).collect();
+    lists.extend((0..1_000).map(too_long));
+    lists
+}
+
+/// Calls that lead to the watches for these lists: an idle one, and some in which one of the channels serves.
+pub fn before_lists() -> [Vec<WatchCall>; 4] {
+    let watching = |serving| {
+        let start = [WatchCall::Start(serving, 5), WatchCall::NewList(vec![7, 3])];
+        let filings = [7, 3, serving, 7].map(|channel| WatchCall::File(channel, heard(-9_000 - i32::from(channel))));
+        start.into_iter().chain(filings).collect()
+    };
+    [vec![], watching(0), watching(5), watching(1_087)]
 }
 
 /// Any call of a watch; most are filings. Starts are few, so that channels come to all the levels of a high depth.

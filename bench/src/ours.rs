@@ -1,6 +1,6 @@
 //! The calls of the archive, through the Rust package of host/rust, as a host makes them.
 
-use crate::library::{Answer, Library, Record};
+use crate::library::{Answer, Library, Record, Refused};
 use crate::plain::{Burst, Choice, Levels, PowerParameters, PowerRecord, Sent, Sweep, Track, Verdict, Watch};
 use royukezan::{power, readings, watch, Refusal};
 
@@ -43,7 +43,7 @@ impl Record for power::Record {
 
 #[inline(always)]
 fn by_number<T>(answer: Result<T, Refusal>) -> Answer<T> {
-    answer.map_err(Refusal::number)
+    answer.map_err(|refusal| Refused::new(refusal.number(), refusal.place()))
 }
 
 #[inline(always)]
@@ -99,7 +99,7 @@ fn stored(step: Result<(power::Record, power::Sent), Refusal>, r: &mut power::Re
     Ok(plain_sent(sent))
 }
 
-/// Writes each call: nothing but the call, the refusal by its number.
+/// Writes each call: nothing but the call, the refusal by its number and its place.
 macro_rules! calls {
     ($($name:ident($($argument:ident: $type:ty),*) -> $value:ty { $body:expr })*) => {
         $(

@@ -2,7 +2,7 @@
 //! against. The rules, the test of the record at each call and the order of the refusals are those of document 01; the
 //! records have the same fields. They are lent and changed in place; a refused call leaves its record as it was.
 
-/// Why a call is refused: document 01's numbers.
+/// Why a call is refused, each under its number, so that `number` takes no time. The place in a list is counted from 0.
 #[derive(Clone, Copy, Debug, PartialEq, Eq)]
 #[repr(u32)]
 pub enum Refusal {
@@ -10,11 +10,45 @@ pub enum Refusal {
     ChannelOutOfRange = 2,
     ChannelVisited = 3,
     SweepUnfinished = 4,
-    ListFaulty = 5,
     NotWatched = 6,
     ParameterOutOfRange = 7,
     OutcomesFaulty = 8,
     RecordNotWellFormed = 9,
+    ListTooLong = 11,
+    ListedOutOfRange { place: u16 } = 12,
+    ListedAgain { place: u16 } = 13,
+    ListedServing { place: u16 } = 14,
+}
+
+impl Refusal {
+    /// The number that document 01 or 02 gives it.
+    #[inline]
+    pub fn number(self) -> u32 {
+        match self {
+            Refusal::ReadingOutOfRange => 1,
+            Refusal::ChannelOutOfRange => 2,
+            Refusal::ChannelVisited => 3,
+            Refusal::SweepUnfinished => 4,
+            Refusal::NotWatched => 6,
+            Refusal::ParameterOutOfRange => 7,
+            Refusal::OutcomesFaulty => 8,
+            Refusal::RecordNotWellFormed => 9,
+            Refusal::ListTooLong => 11,
+            Refusal::ListedOutOfRange { .. } => 12,
+            Refusal::ListedAgain { .. } => 13,
+            Refusal::ListedServing { .. } => 14,
+        }
+    }
+
+    /// The place of the first faulty channel of a list, where one is told.
+    #[inline]
+    pub fn place(self) -> Option<u16> {
+        use Refusal::{ListedAgain, ListedOutOfRange, ListedServing};
+        match self {
+            ListedOutOfRange { place } | ListedAgain { place } | ListedServing { place } => Some(place),
+            _ => None,
+        }
+    }
 }
 
 // Readings.
@@ -514,18 +548,30 @@ impl Watch {
         Ok(())
     }
 
-    fn list_is_fine(&self, list: &[u16]) -> bool {
-        let in_range = list.len() <= LIST_LIMIT && list.iter().all(|&channel| channel <= HIGHEST_CHANNEL);
-        let repeats = |i: usize| list[..i].contains(&list[i]);
-        in_range && !(0..list.len()).any(repeats) && (self.watched == 0 || !list.contains(&self.tracks[0].channel))
+    /// Refusal 11, or that of the first faulty channel: 12, 14, 13.
+    fn check_list(&self, list: &[u16]) -> Result<(), Refusal> {
+        if list.len() > LIST_LIMIT {
+            return Err(Refusal::ListTooLong);
+        }
+        for (i, &channel) in list.iter().enumerate() {
+            let place = i as u16;
+            if channel > HIGHEST_CHANNEL {
+                return Err(Refusal::ListedOutOfRange { place });
+            }
+            if self.watched != 0 && channel == self.tracks[0].channel {
+                return Err(Refusal::ListedServing { place });
+            }
+            if list[..i].contains(&channel) {
+                return Err(Refusal::ListedAgain { place });
+            }
+        }
+        Ok(())
     }
 
-    /// Replaces the neighbours; a channel watched before and after keeps its levels. Refusals 9, 5, 6.
+    /// Replaces the neighbours; a channel watched before and after keeps its levels. Refusals 9, 11, 12 to 14, 6.
     pub fn new_list(&mut self, list: &[u16]) -> Result<(), Refusal> {
         self.check()?;
-        if !self.list_is_fine(list) {
-            return Err(Refusal::ListFaulty);
-        }
+        self.check_list(list)?;
         if self.watched == 0 {
             return Err(Refusal::NotWatched);
         }

@@ -1,6 +1,6 @@
 //! The calls of the plain Rust. None is inlined, so that both sides are calls.
 
-use crate::library::{Answer, Library, Record};
+use crate::library::{Answer, Library, Record, Refused};
 use crate::plain::{self, Burst, Choice, Levels, PowerParameters, PowerRecord, Refusal, Sent, Sweep, Verdict, Watch};
 
 pub struct Plain;
@@ -37,10 +37,10 @@ impl Record for PowerRecord {
 
 #[inline(always)]
 fn by_number<T>(answer: Result<T, Refusal>) -> Answer<T> {
-    answer.map_err(|refusal| refusal as u32)
+    answer.map_err(|refusal| Refused::new(refusal.number(), refusal.place()))
 }
 
-/// Writes each call: not inlined, the refusal by its number.
+/// Writes each call: not inlined, the refusal by its number and its place.
 macro_rules! calls {
     ($($name:ident($($argument:ident: $type:ty),*) -> $value:ty { $body:expr })*) => {
         $(

@@ -16,7 +16,7 @@ mod scenes;
 
 use calls::{Call, WatchCall};
 use dice::Dice;
-use library::{refusal_of, told, Answer, Told};
+use library::{list_refusals, refusal_of, told, Answer, Refused, Told};
 use made_up::{burst, heard};
 use plain::{
     choose, level_to_float, level_to_hundredths, quality_to_float, quality_to_hundredths, Burst, Choice, Levels,
@@ -24,9 +24,10 @@ use plain::{
 };
 use plain_calls::Plain;
 use scenes::{played, Choices, FullSweep, Scene, Steps, ToFloat, ToHundredths, Watched};
+use std::collections::BTreeSet;
 
 fn number<T>(answer: Result<T, Refusal>) -> u32 {
-    answer.map_or_else(|refusal| refusal as u32, |_| 0)
+    answer.map_or_else(Refusal::number, |_| 0)
 }
 
 /// The same answer of the second program.
@@ -76,13 +77,13 @@ fn conversion_agrees_on(all_bits: impl Iterator<Item = u32>) {
         let level = second::reading::level_hundredths(bits);
         let quality = second::reading::quality_hundredths(bits);
         assert_eq!(
-            level_to_hundredths(x).map_err(|why| why as u8),
-            level.map_err(|why| why.number()),
+            level_to_hundredths(x).map_err(Refusal::number),
+            level.map_err(|why| why.number().into()),
             "level {bits:08x}"
         );
         assert_eq!(
-            quality_to_hundredths(x).map_err(|why| why as u8),
-            quality.map_err(|why| why.number()),
+            quality_to_hundredths(x).map_err(Refusal::number),
+            quality.map_err(|why| why.number().into()),
             "quality {bits:08x}"
         );
     }
@@ -91,10 +92,10 @@ fn conversion_agrees_on(all_bits: impl Iterator<Item = u32>) {
 #[test]
 fn every_hundredth_is_shown_and_read_back() {
     for h in -20_000..=10_000 {
-        let level = level_to_float(h).map(f32::to_bits).map_err(|why| why as u8);
-        let quality = quality_to_float(h).map(f32::to_bits).map_err(|why| why as u8);
-        assert_eq!(level, second::reading::shown_level(h).map_err(|why| why.number()), "level {h}");
-        assert_eq!(quality, second::reading::shown_quality(h).map_err(|why| why.number()), "quality {h}");
+        let level = level_to_float(h).map(f32::to_bits).map_err(Refusal::number);
+        let quality = quality_to_float(h).map(f32::to_bits).map_err(Refusal::number);
+        assert_eq!(level, second::reading::shown_level(h).map_err(|why| why.number().into()), "level {h}");
+        assert_eq!(quality, second::reading::shown_quality(h).map_err(|why| why.number().into()), "quality {h}");
         if let Ok(x) = level_to_float(h) {
             assert_eq!(level_to_hundredths(x), Ok(h));
         }
@@ -296,6 +297,26 @@ fn refusals_of_a_start_come_in_order() {
 }
 
 #[test]
+fn faulty_lists_are_told_with_the_first_faulty_place() {
+    use Refusal::{ListTooLong, ListedAgain, ListedOutOfRange, ListedServing, NotWatched};
+    let watch = watching(10, &[20, 30], 15);
+    for (list, of_watch, of_idle) in [
+        (&[1, 2, 3, 4, 5, 6, 1_088][..], ListTooLong, ListTooLong),
+        (&[20, 1_088, 10], ListedOutOfRange { place: 1 }, ListedOutOfRange { place: 1 }),
+        (&[20, 10, 1_088], ListedServing { place: 1 }, ListedOutOfRange { place: 2 }),
+        (&[10, 20, 10], ListedServing { place: 0 }, ListedAgain { place: 2 }),
+        (&[20, 30, 20, 10], ListedAgain { place: 2 }, ListedAgain { place: 2 }),
+        (&[1, 2, 3, 4, 5, 10], ListedServing { place: 5 }, NotWatched),
+    ] {
+        for (before, told) in [(&watch, of_watch), (&Watch::fresh(), of_idle)] {
+            let mut after = before.clone();
+            assert_eq!(after.new_list(list), Err(told), "{list:?}");
+            assert_eq!(&after, before, "{list:?}");
+        }
+    }
+}
+
+#[test]
 fn equal_sums_go_to_the_lowest_channel() {
     for list in [[20, 30, 40], [40, 30, 20], [30, 20, 40]] {
         let mut watch = watching(10, &list, 15);
@@ -368,7 +389,7 @@ fn damaged_watches_are_refused_and_stay() {
 fn second_answer(second: &mut second::watch::Watch, call: &WatchCall) -> u64 {
     use second::watch::Verdict::{Move, Stay, Wait};
     fn by_number<T>(answer: Result<T, second::refusal::Refusal>) -> Answer<T> {
-        answer.map_err(|refusal| refusal.number().into())
+        answer.map_err(|refusal| Refused::new(refusal.number().into(), refusal.place().map(|place| place as u16)))
     }
     match *call {
         // A depth is a byte there. 255 stands for those beyond a byte, which are out of range too.
@@ -407,6 +428,33 @@ fn watches_agree_with_the_second_program() {
             assert_eq!(ask.make::<Plain>(&mut plain), second_answer(&mut second, &ask), "after {call:?} on {before:?}");
         }
     }
+}
+
+#[test]
+fn lists_agree_with_the_second_program() {
+    let lists = made_up::every_list(&Dice::new(9));
+    let mut refused = BTreeSet::new();
+    for calls in made_up::before_lists() {
+        let (mut plain, mut second) = (Watch::fresh(), second::watch::Watch::default());
+        for call in calls {
+            assert_eq!(call.make::<Plain>(&mut plain), second_answer(&mut second, &call), "{call:?}");
+        }
+        for list in &lists {
+            let (mut plain_after, mut second_after) = (plain.clone(), second.clone());
+            let call = WatchCall::NewList(list.clone());
+            let answer = call.make::<Plain>(&mut plain_after);
+            assert_eq!(answer, second_answer(&mut second_after, &call), "{list:?} on {plain:?}");
+            refused.extend(refusal_of(answer));
+            assert!(refusal_of(answer).is_none() || plain_after == plain, "{list:?} on {plain:?}");
+            assert!(watch_is_well_formed(&plain_after));
+            for ask in [0, 3, 5, 7, 9, 1_087].map(WatchCall::Ask) {
+                assert_eq!(ask.make::<Plain>(&mut plain_after), second_answer(&mut second_after, &ask), "{list:?}");
+            }
+        }
+    }
+    let mut every = list_refusals();
+    every.insert(Refused::new(Refusal::NotWatched.number(), None));
+    assert_eq!(refused, every);
 }
 
 #[test]
@@ -497,7 +545,7 @@ fn power_steps_agree_with_the_second_program() {
             let told = decoded.map(|(pan, par)| second::power::Codes { pan: pan as i32, par: par as i32 });
             let told =
                 second.step(&codes(&p), told, sqi).map(|sent| Sent { par: sent.par as u32, pan: sent.pan as u32 });
-            assert_eq!(answer.map_err(|why| why as u8), told.map_err(|why| why.number()));
+            assert_eq!(answer.map_err(Refusal::number), told.map_err(|why| why.number().into()));
             assert!(answer.is_ok() || plain == before);
         }
     }
@@ -520,6 +568,20 @@ fn damaged_power_records_are_refused_and_stay() {
         let mut record = damaged;
         assert_eq!(record.step(&p, Some((64, 64)), 5_000), Err(Refusal::RecordNotWellFormed));
         assert_eq!(record, damaged);
+    }
+}
+
+// What is told of an answer.
+
+#[test]
+fn refusals_are_told_by_numbers_that_no_value_has() {
+    for refusal in list_refusals().into_iter().chain([Refused::new(1, None), Refused::new(12, Some(u16::MAX))]) {
+        assert_eq!(refusal_of(told::<()>(Err(refusal))), Some(refusal));
+    }
+    for level in [-15_000, -1, 0] {
+        for quality in -3_000..=4_000 {
+            assert_eq!(refusal_of((level, quality).number()), None);
+        }
     }
 }
 

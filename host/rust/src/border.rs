@@ -8,7 +8,10 @@ use crate::sweep::Sweep;
 use crate::watch::{Track, Watch};
 use core::mem::{align_of, offset_of, size_of};
 
-// In every answer the first number is the refusal's, 0 for accepted; refused, the other numbers are 0.
+// In every answer the first number is the refusal's, 0 for accepted; refused, the values are 0.
+
+/// Stands for the place where an answer tells none, accepted or refused. No place has this value.
+pub const NO_PLACE: u32 = u32::MAX;
 
 #[repr(C)]
 pub struct HundredthsAnswer {
@@ -62,6 +65,8 @@ pub struct ChoiceAnswer {
 #[repr(C)]
 pub struct WatchOutcome {
     pub refusal: u32,
+    /// Of the first faulty channel of a list, counted from 0.
+    pub place: u32,
     pub watch: Watch,
 }
 
@@ -167,7 +172,7 @@ layout!(CountsAnswer: 12 by 4; refusal 0, visited 4, heard 8);
 layout!(ChoiceAnswer: 12 by 4; refusal 0, choice 4, channel 6, tried 8);
 layout!(Track: 80 by 8; channel 0, count 8, levels 16);
 layout!(Watch: 576 by 8; watched 0, tracks 8, depth 568);
-layout!(WatchOutcome: 584 by 8; refusal 0, watch 8);
+layout!(WatchOutcome: 584 by 8; refusal 0, place 4, watch 8);
 layout!(LevelsAnswer: 12 by 4; refusal 0, count 4, mean 8);
 layout!(VerdictAnswer: 8 by 4; refusal 0, verdict 4, channel 6);
 layout!(Parameters: 28 by 4; sqt 0, paninit 4, panmin 8, panmax 12, gainup 16, gaindn 20, mestep 24);

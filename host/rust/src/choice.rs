@@ -55,6 +55,6 @@ pub fn choose(sweep: &Sweep, margin: i32, outcomes: &[u8]) -> Result<Choice, Ref
         1 => Choice::Camp { channel, tried },
         2 => Choice::Read { channel, tried },
         3 => Choice::NoBeam { tried },
-        other => foreign(other.into()),
+        other => foreign(other),
     })
 }

@@ -85,7 +85,7 @@ impl Sweep {
         accepted(answer.refusal).map(|()| match answer.next {
             1 => Next::Channel(answer.channel),
             2 => Next::Done,
-            other => foreign(other.into()),
+            other => foreign(other),
         })
     }
 

@@ -2,7 +2,7 @@
 
 use crate::border::{self, WatchOutcome};
 use crate::readings::{Burst, Reading};
-use crate::refusal::{accepted, foreign, Refusal};
+use crate::refusal::{accepted, accepted_at, foreign, Refusal};
 
 /// The lowest depth of a watch: how many of a channel's levels count.
 pub const DEPTH_LOWEST: usize = 5;
@@ -79,7 +79,7 @@ impl Watch {
     }
 
     /// Replaces the neighbours, by up to 6 channels in any order. One watched before and after keeps its levels, and
-    /// the depth stays. Refusals 9, 5, 6.
+    /// the depth stays. Refusals 9, 11, then 12 to 14 with the place of the first faulty channel, 6.
     #[inline]
     pub fn new_list(&mut self, list: &[u16]) -> Result<(), Refusal> {
         let (given, length) = (self.clone(), list.len());
@@ -122,7 +122,7 @@ impl Watch {
     #[inline]
     fn keep(&mut self, outcome: WatchOutcome) -> Result<(), Refusal> {
         *self = outcome.watch;
-        accepted(outcome.refusal)
+        accepted_at(outcome.refusal, outcome.place)
     }
 
     /// The count and the mean of a channel's levels. Refusals 9, 6.
@@ -140,7 +140,7 @@ impl Watch {
             1 => Verdict::Wait,
             2 => Verdict::Stay,
             3 => Verdict::MoveTo(answer.channel),
-            other => foreign(other.into()),
+            other => foreign(other),
         })
     }
 

@@ -170,7 +170,7 @@ fn refused(watch: &Watch, calls: &[(common::Call<Watch>, Refusal)]) {
 
 #[test]
 fn refusals_of_an_idle_watch() {
-    use Refusal::{ChannelOutOfRange, ListFaulty, NotWatched, ParameterOutOfRange};
+    use Refusal::{ChannelOutOfRange, ListTooLong, ListedAgain, ListedOutOfRange, NotWatched, ParameterOutOfRange};
     refused(
         &Watch::fresh(),
         &[
@@ -180,9 +180,14 @@ fn refusals_of_an_idle_watch() {
             (|w| w.start(310, 32), ParameterOutOfRange),
             (|w| w.start(310, usize::MAX), ParameterOutOfRange),
             (|w| w.start(1_088, 4), ParameterOutOfRange),
-            (|w| w.new_list(&[1_088]), ListFaulty),
+            // What is wrong with a list comes before that. Nobody serves, so that channel 0 is no fault.
+            (|w| w.new_list(&[1, 2, 3, 4, 5, 6, 7]), ListTooLong),
+            (|w| w.new_list(&[1_088]), ListedOutOfRange { place: 0 }),
+            (|w| w.new_list(&[1, 2, 65_535]), ListedOutOfRange { place: 2 }),
+            (|w| w.new_list(&[0, 0]), ListedAgain { place: 1 }),
             (|w| w.new_list(&[]), NotWatched),
             (|w| w.new_list(&[0]), NotWatched),
+            (|w| w.new_list(&[0, 1, 2, 3, 4, 5]), NotWatched),
             (|w| w.move_to(0), NotWatched),
             (|w| w.file_heard(0, f32::NAN, 0.0), NotWatched),
             (|w| w.file_missed(0), NotWatched),
@@ -195,7 +200,7 @@ fn refusals_of_an_idle_watch() {
 
 #[test]
 fn refusals_come_in_their_order() {
-    use Refusal::{ChannelOutOfRange, ListFaulty, NotWatched, ParameterOutOfRange, ReadingOutOfRange};
+    use Refusal::{ChannelOutOfRange, NotWatched, ParameterOutOfRange, ReadingOutOfRange};
     let mut watch = watching(10, &[20, 30], DEPTH);
     file(&mut watch, 20, -90.0, 3);
     refused(
@@ -212,10 +217,6 @@ fn refusals_come_in_their_order() {
             // Of 32 bits it would be 15.
             (|w| w.start(10, (1 << 32) + 15), ParameterOutOfRange),
             (|w| w.start(10, usize::MAX), ParameterOutOfRange),
-            (|w| w.new_list(&[1, 2, 3, 4, 5, 6, 7]), ListFaulty),
-            (|w| w.new_list(&[1, 2, 1]), ListFaulty),
-            (|w| w.new_list(&[1, 10]), ListFaulty),
-            (|w| w.new_list(&[1, 1_088]), ListFaulty),
             (|w| w.move_to(10), NotWatched),
             (|w| w.move_to(40), NotWatched),
             (|w| w.file_heard(40, f32::NAN, f32::NAN), NotWatched),
@@ -227,6 +228,81 @@ fn refusals_come_in_their_order() {
             (|w| w.verdict(i32::MIN).map(drop), ParameterOutOfRange),
         ],
     );
+}
+
+/// The refusal of this list, which leaves the watch as it was.
+fn refusal_of(watch: &Watch, list: &[u16]) -> Refusal {
+    let mut given = watch.clone();
+    let refusal = given.new_list(list).unwrap_err();
+    assert_eq!(&given, watch, "{list:?}");
+    refusal
+}
+
+/// A watch in which 10 serves and two neighbours have levels.
+fn serving_10() -> Watch {
+    let mut watch = watching(10, &[20, 30], DEPTH);
+    file(&mut watch, 20, -90.0, 3);
+    file(&mut watch, 30, -80.0, 15);
+    watch
+}
+
+#[test]
+fn over_6_channels_are_told_without_a_place_and_before_any_fault() {
+    for watch in [Watch::fresh(), serving_10()] {
+        for list in [&[1, 2, 3, 4, 5, 6, 7][..], &[10; 7], &[1_088; 8], &[1; 300], &[20, 30, 20, 4, 5, 6, 1_088]] {
+            let refusal = refusal_of(&watch, list);
+            assert_eq!(refusal, Refusal::ListTooLong, "{list:?}");
+            assert_eq!((refusal.number(), refusal.place()), (11, None));
+        }
+    }
+}
+
+#[test]
+fn each_fault_of_a_list_is_told_at_every_place() {
+    let (idle, watch) = (Watch::fresh(), serving_10());
+    for place in 0..6 {
+        let mut list = [1, 2, 3, 4, 5, 6];
+        for above in [1_088, u16::MAX] {
+            list[usize::from(place)] = above;
+            assert_eq!(refusal_of(&watch, &list), Refusal::ListedOutOfRange { place });
+            assert_eq!(refusal_of(&idle, &list), Refusal::ListedOutOfRange { place });
+        }
+        list[usize::from(place)] = 10;
+        assert_eq!(refusal_of(&watch, &list), Refusal::ListedServing { place });
+        assert_eq!(refusal_of(&idle, &list), Refusal::NotWatched);
+        for earlier in 0..usize::from(place) {
+            list[usize::from(place)] = list[earlier];
+            assert_eq!(refusal_of(&watch, &list), Refusal::ListedAgain { place });
+            assert_eq!(refusal_of(&idle, &list), Refusal::ListedAgain { place });
+        }
+    }
+}
+
+#[test]
+fn the_first_faulty_channel_of_a_list_is_told() {
+    for (list, number, place) in [
+        (&[1, 1_088, 10][..], 12, 1),
+        (&[1, 10, 1_088], 14, 1),
+        (&[1, 1_088, 1], 12, 1),
+        (&[1, 1, 1_088], 13, 1),
+        (&[20, 30, 10, 20], 14, 2),
+        (&[20, 30, 20, 10], 13, 2),
+        (&[10, 10], 14, 0),
+        (&[1_088, 1_088], 12, 0),
+        (&[1, 2, 2, 1], 13, 2),
+        (&[1, 2, 3, 4, 5, 10], 14, 5),
+    ] {
+        let refusal = refusal_of(&serving_10(), list);
+        assert_eq!((refusal.number(), refusal.place()), (number, Some(place)), "{list:?}");
+    }
+}
+
+#[test]
+fn a_list_is_judged_against_the_channel_that_serves_now() {
+    let mut watch = serving_10();
+    assert_eq!(watch.move_to(20), Ok(()));
+    assert_eq!(refusal_of(&watch, &[30, 20]), Refusal::ListedServing { place: 1 });
+    assert_eq!(watch.new_list(&[30, 10]), Ok(()));
 }
 
 const DAMAGES: [fn(&mut Watch); 32] = [
@@ -281,6 +357,7 @@ fn damaged_records_are_refused_first() {
             |w| w.start(1_088, 32),
             |w| w.start(10, 15),
             |w| w.new_list(&[1_088]),
+            |w| w.new_list(&[1, 2, 3, 4, 5, 6, 7]),
             |w| w.new_list(&[]),
             |w| w.move_to(40),
             |w| w.move_to(20),
