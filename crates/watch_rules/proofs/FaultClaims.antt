@@ -21,7 +21,7 @@ use Rattle.watch_rules.specs.Rules.{View, serves, answer}
 use Rattle.watch_rules.specs.Plain.{Plain, idle, seen, after}
 use Rattle.watch_rules.specs.Rows.{Row, channels, first}
 use Rattle.watch_rules.specs.Record.{rows, fresh, afterFrom}
-use Rattle.watch_rules.specs.Refusals.{Faulty, tooLong}
+use Rattle.watch_rules.specs.Refusals.{Faulty, tooLong, FirstFault, Refuses, listTooLong, listFaulty}
 use Rattle.watch_rules.specs.Claims.{OneOfFaults, ButForFault, sameAnswer, faults, AllButForFault, noMore, andMore, NothingElse, OfGroup, eleven, placed, ListFaultRule}
 use Rattle.watch_rules.proofs.Laws.{byCase}
 use Rattle.watch_rules.proofs.Faults.{fault-number, fault-faulty, no-other, Judged, isLong, hasFault, isSound, judged, long-refused, fault-refused, sound-allowed}
@@ -80,9 +80,25 @@ serving-ranged : (ks : List Call) (c : ℕ) → after idle ks .serving ≡ some 
 serving-ranged ks c e =
     itFollows ks .inRange c (first-there (rows (afterFrom fresh ks)) c (ap (λ (v : View). v .serving) (shows (linked ks)) ∙ e))
 
+-- the rows of a list
+
+long-row : {p : Plain} {l : List ℕ} → Refuses p (newList l) (Alone 11) → 6 < length l
+long-row (listTooLong l h) = h
+
+fault-row : {p : Plain} {l : List ℕ} {n place : ℕ} → Refuses p (newList l) (At n place) → (length l ≤ 6) × FirstFault p l place n
+fault-row (listFaulty l place n h f) = (h, f)
+
 pub listFaultRule : ListFaultRule
 listFaultRule =
     record {
+      tooLong = λ ks l. (
+        λ e. long-row (refusalRule ks (newList l) (Alone 11) .0 e),
+        λ h. refusalRule ks (newList l) (Alone 11) .1 (listTooLong l h),
+      );
+      atPlace = λ ks l n place. (
+        λ e. fault-row (refusalRule ks (newList l) (At n place) .0 e),
+        λ h. refusalRule ks (newList l) (At n place) .1 (listFaulty l place n (h .0) (h .1)),
+      );
       split = λ ks l.
           let p : Plain = after idle ks in
           let e = answered-next ks (newList l) in (

@@ -309,11 +309,14 @@ pub data OfGroup : Told Given → Type 0 where
   eleven : OfGroup (refused (Alone 11))
   placed : (n place : ℕ) → OneOfFaults n → OfGroup (refused (At n place))
 
--- "Split it": a list gets one of 11 to 14 exactly where document 01 gave 5. At the first faulty place one number alone fits, in whichever order
--- its faults are asked for: a serving channel is in range, and a repeat of a faulty channel is told at the earlier place. No other call tells a
--- place
+-- "Split it": a list gets one of 11 to 14 exactly where document 01 gave 5, 11 exactly for over 6 channels, and a place exactly where it is the first
+-- faulty one of a list that is not too long. At that place one number alone fits, in whichever order its faults are asked for: a serving channel is
+-- in range, and a repeat of a faulty channel is told at the earlier place. No other call tells a place
 pub record ListFaultRule : Type 0 where
   pub split : (ks : List Call) (l : List ℕ) → OfGroup (called (afterFrom fresh ks) (newList l) .answer) ↔ Faulty (after idle ks) l
+  pub tooLong : (ks : List Call) (l : List ℕ) → (called (afterFrom fresh ks) (newList l) .answer ≡ refused (Alone 11)) ↔ (6 < length l)
+  pub atPlace : (ks : List Call) (l : List ℕ) (n place : ℕ) → (called (afterFrom fresh ks) (newList l) .answer ≡ refused (At n place))
+      ↔ ((length l ≤ 6) × FirstFault (after idle ks) l place n)
   pub orderUnseen : (ks : List Call) (l : List ℕ) (place n m : ℕ) → FirstFault (after idle ks) l place n → Fault (after idle ks) l place m → m ≡ n
   pub listsOnly : (ks : List Call) (k : Call) (n place : ℕ) → called (afterFrom fresh ks) k .answer ≡ refused (At n place)
       → (l : List ℕ) × (k ≡ newList l)
