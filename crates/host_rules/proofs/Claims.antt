@@ -43,7 +43,7 @@ use Rattle.power_rules.specs.Calls as powers
 use Rattle.power_rules.specs.Calls.{ToSend}
 use Rattle.power_rules.proofs.Claims.{sendsWithinLimits}
 use Rattle.host_rules.specs.Answers.{acceptedNumber, refusalNumber, noPlace, refusalPlace, aChannel, toCamp, toRead, toWait, toStay, hundredthsAnswer, floatAnswer, burstAnswer, nextAnswer, countsAnswer, choiceAnswer, levelsAnswer, verdictAnswer, sentAnswer}
-use Rattle.host_rules.specs.Claims.{OneToOneOver, Changes, Changing, Filing, filed, Step, stepOf, NothingLost}
+use Rattle.host_rules.specs.Claims.{OneToOneOver, Changes, Changing, SweepFiling, handedSweep, PowerStep, handedPower, NothingLost}
 
 -- ---- the way back
 
@@ -139,7 +139,7 @@ with-burst s c (value (heard l q)) = value _
 with-burst s c (value missed) = value _
 with-burst s c (alone n k) = alone n k
 
-files : (x : Filing) → Placeless (filed x .1)
+files : (x : SweepFiling) → Placeless (handedSweep x .1)
 unfolding filing
 files x =
     accepting
@@ -187,28 +187,28 @@ choice-kept x =
 
 -- ---- watch: a call gives what it grants, or it tells a number, and a place of a list where it tells one
 
-data Answered (v : View) (k : Call) : Told Given → Type 0 where
-  grants : Answered v k (gives (granted v k))
-  tells : (n : ℕ) → ¬ (n ≡ acceptedNumber) → Answered v k (refused (Alone n))
-  tellsAt : (n place : ℕ) → ¬ (n ≡ acceptedNumber) → place < 6 → Changes k → Answered v k (refused (At n place))
+data WatchTold (v : View) (k : Call) : Told Given → Type 0 where
+  grants : WatchTold v k (gives (granted v k))
+  tells : (n : ℕ) → ¬ (n ≡ acceptedNumber) → WatchTold v k (refused (Alone n))
+  tellsAt : (n place : ℕ) → ¬ (n ≡ acceptedNumber) → place < 6 → Changes k → WatchTold v k (refused (At n place))
 
-answered : (v : View) (k : Call) → Answered v k (answer v k)
+watch-told : (v : View) (k : Call) → WatchTold v k (answer v k)
 unfolding answer
-answered v k = go (allowed v k) refl
+watch-told v k = go (allowed v k) refl
   where
-    go : (o : Told Unit) → allowed v k ≡ o → Answered v k (giving o (granted v k))
+    go : (o : Told Unit) → allowed v k ≡ o → WatchTold v k (giving o (granted v k))
     go (gives u) e = grants
     go (refused (Alone n)) e = tells n (λ z. (let h = told-number v k e in omega arith))
     go (refused (At n place)) e =
         let p = told-place v k e in
         tellsAt n place (λ z. (let h = told-number v k e in omega arith)) (p .0) (subst Changes (sym (p .1 .1)) tt)
 
-call-answered : (w : Watch) (k : Call) → Answered (viewOf w) k (called w k .answer)
+call-told : (w : Watch) (k : Call) → WatchTold (viewOf w) k (called w k .answer)
 unfolding called
-call-answered w k = by-form (wellFormed w)
+call-told w k = by-form (wellFormed w)
   where
-    by-form : (b : Bool) → Answered (viewOf w) k (cond b (handed w (rows w) k) (returned w) .answer)
-    by-form true = answered (viewOf w) k
+    by-form : (b : Bool) → WatchTold (viewOf w) k (cond b (handed w (rows w) k) (returned w) .answer)
+    by-form true = watch-told (viewOf w) k
     by-form false = tells 9 (numbersRule .noneIsZero why.RecordNotWellFormed)
 
 -- a call that may change the watch: what was told, by its number and place
@@ -226,7 +226,7 @@ unfolding changeBy
 place-back zero place k h = absurd (k refl)
 place-back (suc n) place k h = rw (ne-eqb place noPlace (λ e. omega arith))
 
-change-back : (v : View) (k : Call) → Changes k → {t : Told Given} → Answered v k t → changeBy (refusalNumber t) (refusalPlace t) ≡ t
+change-back : (v : View) (k : Call) → Changes k → {t : Told Given} → WatchTold v k t → changeBy (refusalNumber t) (refusalPlace t) ≡ t
 unfolding changeBy
 change-back v (start c d) p grants = refl
 change-back v (newList l) p grants = refl
@@ -241,9 +241,9 @@ change-fixes : (x y : Changing) → refusalNumber (called (x .watch) (x .call) .
     → refusalPlace (called (x .watch) (x .call) .answer) ≡ refusalPlace (called (y .watch) (y .call) .answer)
     → called (x .watch) (x .call) .answer ≡ called (y .watch) (y .call) .answer
 change-fixes x y e f =
-    sym (change-back (viewOf (x .watch)) (x .call) (x .changes) (call-answered (x .watch) (x .call)))
+    sym (change-back (viewOf (x .watch)) (x .call) (x .changes) (call-told (x .watch) (x .call)))
     ∙ ap₂ changeBy e f
-    ∙ change-back (viewOf (y .watch)) (y .call) (y .changes) (call-answered (y .watch) (y .call))
+    ∙ change-back (viewOf (y .watch)) (y .call) (y .changes) (call-told (y .watch) (y .call))
 
 test-kept : (w : Watch) → Kept refusalNumber (λ n. n) (λ n. accepted) (tested w .answer)
 unfolding tested
@@ -256,7 +256,7 @@ test-kept w = by-form (wellFormed w)
 abbrev Asked : Told Given → Type 0
 Asked = Kept levelsAnswer (λ z. z .refusal) (λ z. levels (z .count) (z .mean))
 
-levels-kept : (v : View) (c : ℕ) {t : Told Given} → Answered v (ask c) t → Asked t
+levels-kept : (v : View) (c : ℕ) {t : Told Given} → WatchTold v (ask c) t → Asked t
 levels-kept v c grants = given refl refl
 levels-kept v c (tells n k) = numbered refl k
 levels-kept v c (tellsAt n place k h p) = absurd p
@@ -272,7 +272,7 @@ judged true none = given refl refl
 judged true (some c) = given refl refl
 judged false o = given refl refl
 
-verdict-kept : (v : View) (h : ℤ) {t : Told Given} → Answered v (verdict h) t → Judged t
+verdict-kept : (v : View) (h : ℤ) {t : Told Given} → WatchTold v (verdict h) t → Judged t
 verdict-kept v h grants = judged (full (v .depth) (servingLevels v)) (target v h)
 verdict-kept v h (tells n k) = numbered refl k
 verdict-kept v h (tellsAt n place k l p) = absurd p
@@ -290,7 +290,7 @@ tested-told : (r : PowerRecord) → Placeless (powers.tested r .answer)
 unfolding powers.tested
 tested-told r = gives-placeless tt (unless (steps.wellFormed r) why.RecordNotWellFormed refl (value tt))
 
-step-told : (x : Step) → Placeless (stepOf x .answer)
+step-told : (x : PowerStep) → Placeless (handedPower x .answer)
 unfolding powers.stepped
 step-told x =
     gives-placeless (powers.sending (x .parameters) (x .power) (x .decoded) (x .sqi))
@@ -304,10 +304,10 @@ not-below : (n : ℕ) (z : ℤ) → pos n ≤ℤ z → pos (natAbs z) ≡ z
 not-below n (pos m) h = refl
 not-below n (negsuc m) h = absurd (h .le)
 
-sent-kept : (x : Step) → Kept sentAnswer (λ z. z .refusal) (λ z. record { par = pos (z .par); pan = pos (z .pan) }) (stepOf x .answer)
-sent-kept x = go (stepOf x .answer) refl (step-told x)
+sent-kept : (x : PowerStep) → Kept sentAnswer (λ z. z .refusal) (λ z. record { par = pos (z .par); pan = pos (z .pan) }) (handedPower x .answer)
+sent-kept x = go (handedPower x .answer) refl (step-told x)
   where
-    go : (t : Told ToSend) → stepOf x .answer ≡ t → Placeless t → Kept sentAnswer (λ z. z .refusal) (λ z. record { par = pos (z .par); pan = pos (z .pan) }) t
+    go : (t : Told ToSend) → handedPower x .answer ≡ t → Placeless t → Kept sentAnswer (λ z. z .refusal) (λ z. record { par = pos (z .par); pan = pos (z .pan) }) t
     go (gives s) e p =
         let l = sendsWithinLimits (x .parameters) (x .power) (x .decoded) (x .sqi) s e in
         given refl (λ i. record { par = not-below _ (s .par) (l .par-lowest) i; pan = not-below _ (s .pan) (l .pan-lowest) i })
@@ -328,8 +328,8 @@ nothingLost =
       counts = kept-over counts-kept;
       choice = kept-over choice-kept;
       watch = λ x y e i. record { watch = e i .watch; answer = change-fixes x y (ap (λ o. o .refusal) e) (ap (λ o. o .place) e) i };
-      levels = kept-over (λ x. levels-kept (viewOf (x .0)) (x .1) (call-answered (x .0) (ask (x .1))));
-      verdict = kept-over (λ x. verdict-kept (viewOf (x .0)) (x .1) (call-answered (x .0) (verdict (x .1))));
+      levels = kept-over (λ x. levels-kept (viewOf (x .0)) (x .1) (call-told (x .0) (ask (x .1))));
+      verdict = kept-over (λ x. verdict-kept (viewOf (x .0)) (x .1) (call-told (x .0) (verdict (x .1))));
       power = λ p q e i. record { power = e i .power; answer = number-fixes (started-told p) (started-told q) (ap (λ o. o .refusal) e) i };
       sent = kept-over sent-kept;
       step = λ x y e i. record { power = e i .power; answer = kept-over sent-kept x y (ap (λ o. o .answer) e) i };

@@ -47,23 +47,23 @@ pub record Changing : Type 0 where
   pub changes : Changes call
 
 -- a filing in a sweep, and what it hands back: the sweep, and its answer
-pub record Filing : Type 0 where
+pub record SweepFiling : Type 0 where
   pub sweep : Sweep
   pub channel : ℕ
   pub burst : Burst
 
-abbrev pub filed : Filing → Sweep × Told Unit
-filed x = (leaves (x .sweep) (filing (x .sweep) (x .channel) (x .burst)), acceptance (filing (x .sweep) (x .channel) (x .burst)))
+abbrev pub handedSweep : SweepFiling → Sweep × Told Unit
+handedSweep x = (leaves (x .sweep) (filing (x .sweep) (x .channel) (x .burst)), acceptance (filing (x .sweep) (x .channel) (x .burst)))
 
 -- a power step
-pub record Step : Type 0 where
+pub record PowerStep : Type 0 where
   pub parameters : PowerParameters
   pub power : PowerRecord
   pub decoded : Decoded
   pub sqi : ℤ
 
-abbrev pub stepOf : Step → HandedBack ToSend
-stepOf x = stepped (x .parameters) (x .power) (x .decoded) (x .sqi)
+abbrev pub handedPower : PowerStep → HandedBack ToSend
+handedPower x = stepped (x .parameters) (x .power) (x .decoded) (x .sqi)
 
 -- nothing is lost at the border: the numbers that a host finds fix what is told of the call, a place too, and the record beside it. It is said
 -- over what each call gives; and what is told fixes the library's answer (`AnswersDiffer` of each part)
@@ -75,7 +75,7 @@ pub record NothingLost : Type 0 where
   pub levelShown : OneToOneOver levelShown floatAnswer
   pub qualityShown : OneToOneOver qualityShown floatAnswer
   pub burst : OneToOneOver (λ (r : Reading). burstOf (Heard r)) burstAnswer
-  pub sweep : OneToOneOver filed (λ (h : Sweep × Told Unit). sweepBeside (h .0) (h .1))
+  pub sweep : OneToOneOver handedSweep (λ (h : Sweep × Told Unit). sweepBeside (h .0) (h .1))
   pub next : OneToOneOver nextTold nextAnswer
   pub counts : OneToOneOver countsTold countsAnswer
   pub choice : OneToOneOver (λ (x : Sweep × ℤ × List ℕ). choosing (x .0) (x .1) (x .2)) choiceAnswer
@@ -83,8 +83,8 @@ pub record NothingLost : Type 0 where
   pub levels : OneToOneOver (λ (x : Watch × ℕ). called (x .0) (ask (x .1)) .answer) levelsAnswer
   pub verdict : OneToOneOver (λ (x : Watch × ℤ). called (x .0) (verdict (x .1)) .answer) verdictAnswer
   pub power : OneToOneOver started powerOutcome
-  pub sent : OneToOneOver (λ (x : Step). stepOf x .answer) sentAnswer
-  pub step : OneToOneOver stepOf sentOutcome
+  pub sent : OneToOneOver (λ (x : PowerStep). handedPower x .answer) sentAnswer
+  pub step : OneToOneOver handedPower sentOutcome
   -- the tests of a sweep, a watch and a power record: the number alone
   pub sweepNumber : OneToOneOver checking refusalNumber
   pub watchNumber : OneToOneOver (λ (w : Watch). watches.tested w .answer) refusalNumber

@@ -22,7 +22,7 @@ use Rattle.watch_rules.specs.Rows.{Row, channels, levelsOf, first, rest,
 use Rattle.watch_rules.specs.Record.{viewOf, trackOf, unused, recordOf, changedRecord, fresh, called, answersFrom, afterFrom}
 use Rattle.watch_rules.specs.Claims.{meanTold, movesTo, Compared, countOf, ofRecord, ofPlain, Alike, Reordered, ButForOrder, same, lists, AllButForOrder, end, more, OneOfFaults, AsPlain, ButForFault, sameAnswer, faults, AllButForFault, noMore, andMore, PlaceFree, Demand3}
 use Rattle.watch_rules.proofs.Laws.{byCase, clash, take-padTo, view-path, levels-none}
-use Rattle.watch_rules.proofs.Faults.{fault-number, fault-faulty, Judged, isLong, hasFault, isSound, judged, long-refused, fault-refused, sound-allowed}
+use Rattle.watch_rules.proofs.Faults.{fault-number, fault-faulty, ListKind, isLong, hasFault, isSound, list-kind, long-refused, fault-refused, sound-allowed}
 use Rattle.watch_rules.proofs.Encode.{rows-record}
 use Rattle.watch_rules.proofs.Calls.{called-record, first-watched}
 use Rattle.watch_rules.proofs.Steps.{Step, step}
@@ -181,7 +181,7 @@ module _ (p : Plain) (a : Told Unit) (l m : List ℕ) (r : Reordered l m) where
       → AllowedAlike (unlessFaulty (p .serving) l a) (unlessFaulty (p .serving) m a)
   equal-ends e f = subst (AllowedAlike (unlessFaulty (p .serving) l a)) (e ∙ sym f) (alikeAllowed (unlessFaulty (p .serving) l a))
 
-  lists-alike : Judged p l → Judged p m → AllowedAlike (unlessFaulty (p .serving) l a) (unlessFaulty (p .serving) m a)
+  lists-alike : ListKind p l → ListKind p m → AllowedAlike (unlessFaulty (p .serving) l a) (unlessFaulty (p .serving) m a)
   lists-alike (isLong h) (isLong k) = equal-ends (long-refused p l a h) (long-refused p m a k)
   lists-alike (isLong h) (hasFault place n k f) = absurd (let e = length-reordered l m r in omega arith)
   lists-alike (isLong h) (isSound n) = absurd (n (faulty-reordered l m r p (tooLong h)))
@@ -196,7 +196,7 @@ module _ (p : Plain) (a : Told Unit) (l m : List ℕ) (r : Reordered l m) where
 
 allowed-but : (p : Plain) {k j : Call} → ButForOrder k j → AllowedAlike (allowed (seen p) k) (allowed (seen p) j)
 allowed-but p (same k) = alikeAllowed (allowed (seen p) k)
-allowed-but p (lists l m r) = lists-alike p _ l m r (judged p l) (judged p m)
+allowed-but p (lists l m r) = lists-alike p _ l m r (list-kind p l) (list-kind p m)
 
 answer-alike : {a b : Told Unit} (g : Given) → AllowedAlike a b → ButForFault (giving a g) (giving b g)
 answer-alike g (alikeAllowed a) = sameAnswer (giving a g)

@@ -24,7 +24,7 @@ use Rattle.watch_rules.specs.Record.{rows, fresh, afterFrom}
 use Rattle.watch_rules.specs.Refusals.{Faulty, tooLong, FirstFault, Refuses, listTooLong, listFaulty}
 use Rattle.watch_rules.specs.Claims.{OneOfFaults, ButForFault, sameAnswer, faults, AllButForFault, noMore, andMore, NothingElse, OfGroup, eleven, placed, ListFaultRule}
 use Rattle.watch_rules.proofs.Laws.{byCase}
-use Rattle.watch_rules.proofs.Faults.{fault-number, fault-faulty, no-other, Judged, isLong, hasFault, isSound, judged, long-refused, fault-refused, sound-allowed}
+use Rattle.watch_rules.proofs.Faults.{fault-number, fault-faulty, no-other, ListKind, isLong, hasFault, isSound, list-kind, long-refused, fault-refused, sound-allowed}
 use Rattle.watch_rules.proofs.Calls.{refused-answer}
 use Rattle.watch_rules.proofs.Refusals.{place-row}
 use Rattle.watch_rules.proofs.Demand3.{one-of-faults, linked, shows, answered-next}
@@ -52,7 +52,7 @@ module _ (p : Plain) (l : List ℕ) where
   abbrev rest : Told Unit
   rest = provided (serves (p .serving)) why.NotWatched refusal.accepted
 
-  group-faulty : Judged p l → OfGroup (answer (seen p) (newList l)) → Faulty p l
+  group-faulty : ListKind p l → OfGroup (answer (seen p) (newList l)) → Faulty p l
   unfolding answer
   group-faulty (isLong h) g = tooLong h
   group-faulty (hasFault place n h f) g = fault-faulty p l (f .fault)
@@ -60,7 +60,7 @@ module _ (p : Plain) (l : List ℕ) where
       let least = group-number (subst (λ (a : Told Unit). OfGroup (giving a accepted)) (sound-allowed p l rest n) g) in
       absurd (omega (arith, least, sound-number (serves (p .serving))))
 
-  faulty-group : Judged p l → Faulty p l → OfGroup (answer (seen p) (newList l))
+  faulty-group : ListKind p l → Faulty p l → OfGroup (answer (seen p) (newList l))
   faulty-group (isLong h) f = subst OfGroup (sym (refused-answer (seen p) (newList l) (Alone 11) (long-refused p l rest h))) eleven
   faulty-group (hasFault place n h g) f =
       subst OfGroup (sym (refused-answer (seen p) (newList l) (At n place) (fault-refused p l rest h g)))
@@ -102,8 +102,8 @@ listFaultRule =
       split = λ ks l.
           let p : Plain = after idle ks in
           let e = answered-next ks (newList l) in (
-            λ g. group-faulty p l (judged p l) (subst OfGroup e g),
-            λ f. subst OfGroup (sym e) (faulty-group p l (judged p l) f),
+            λ g. group-faulty p l (list-kind p l) (subst OfGroup e g),
+            λ f. subst OfGroup (sym e) (faulty-group p l (list-kind p l) f),
           );
       orderUnseen = λ ks l place n m f g. no-other (serving-ranged ks) f g;
       listsOnly = λ ks k n place e. place-row (refusalRule ks k (At n place) .0 e) .1;

@@ -248,20 +248,20 @@ module _ {p : Plain} {l : List ℕ} where
 -- ---- what the rule comes to
 
 -- a list is too long, or has a first fault, or is faulty in no way
-pub data Judged (p : Plain) (l : List ℕ) : Type 0 where
-  isLong : 6 < length l → Judged p l
-  hasFault : (place n : ℕ) → length l ≤ 6 → FirstFault p l place n → Judged p l
-  isSound : ¬ (Faulty p l) → Judged p l
+pub data ListKind (p : Plain) (l : List ℕ) : Type 0 where
+  isLong : 6 < length l → ListKind p l
+  hasFault : (place n : ℕ) → length l ≤ 6 → FirstFault p l place n → ListKind p l
+  isSound : ¬ (Faulty p l) → ListKind p l
 
 module _ (p : Plain) (l : List ℕ) where
-  short-judged : length l ≤ 6 → Walked p l [] l → Judged p l
-  short-judged h (found place n f w) = hasFault place n h f
-  short-judged h (clear k w) = isSound (λ f. (let r = faulty-fault p l h f in k (r .0) (r .1) (fault-within (r .2)) (r .2)))
+  short-kind : length l ≤ 6 → Walked p l [] l → ListKind p l
+  short-kind h (found place n f w) = hasFault place n h f
+  short-kind h (clear k w) = isSound (λ f. (let r = faulty-fault p l h f in k (r .0) (r .1) (fault-within (r .2)) (r .2)))
 
-  pub judged : Judged p l
-  judged =
+  pub list-kind : ListKind p l
+  list-kind =
       byCase (leb (length l) listLimit)
-      (λ b. short-judged (leb-true (length l) listLimit b) (walked p l))
+      (λ b. short-kind (leb-true (length l) listLimit b) (walked p l))
       (λ b. isLong (leb-false (length l) listLimit b))
 
   module _ (a : Told Unit) where

@@ -19,7 +19,7 @@ use Rattle.watch_rules.specs.Plain.{Plain}
 use Rattle.watch_rules.specs.Refusals.{Faulty, tooLong, above, repeated, servingIn}
 use Rattle.watch_rules.proofs.Laws.{byCase, clash, and-left, and-right, and-both, not-is}
 use Rattle.watch_rules.proofs.Words.{distinct-times, repeat-found, every-found, every-times, is-some, some-is}
-use Rattle.watch_rules.proofs.Faults.{Judged, isLong, hasFault, isSound, judged, long-refused, fault-refused, sound-allowed}
+use Rattle.watch_rules.proofs.Faults.{ListKind, isLong, hasFault, isSound, list-kind, long-refused, fault-refused, sound-allowed}
 
 -- at most 6 channels, none above 1,087, no repeat, and not the serving channel
 abbrev pub listSound : Option ℕ → List ℕ → Bool
@@ -78,18 +78,18 @@ module _ (s : Option ℕ) (l : List ℕ) where
 
   -- a list that passes is sound, and what follows decides
   pub passes-sound : (a : Told Unit) {u : Unit} → unlessFaulty s l a ≡ gives u → (listSound s l ≡ true) × (a ≡ gives u)
-  passes-sound a {u} e = go (judged (servedBy s) l)
+  passes-sound a {u} e = go (list-kind (servedBy s) l)
     where
-      go : Judged (servedBy s) l → (listSound s l ≡ true) × (a ≡ gives u)
+      go : ListKind (servedBy s) l → (listSound s l ≡ true) × (a ≡ gives u)
       go (isLong h) = absurd (gives-refused (sym e ∙ long-refused (servedBy s) l a h))
       go (hasFault place n h f) = absurd (gives-refused (sym e ∙ fault-refused (servedBy s) l a h f))
       go (isSound n) = (sound-list n, sym (sound-allowed (servedBy s) l a n) ∙ e)
 
   -- a fault comes before all that follows
   pub fault-first : {n : Reason} → unlessFaulty s l accepted ≡ refused n → (a : Told Unit) → unlessFaulty s l a ≡ refused n
-  fault-first {n} e a = go (judged (servedBy s) l)
+  fault-first {n} e a = go (list-kind (servedBy s) l)
     where
-      go : Judged (servedBy s) l → unlessFaulty s l a ≡ refused n
+      go : ListKind (servedBy s) l → unlessFaulty s l a ≡ refused n
       go (isLong h) = long-refused (servedBy s) l a h ∙ sym (long-refused (servedBy s) l accepted h) ∙ e
       go (hasFault place m h f) = fault-refused (servedBy s) l a h f ∙ sym (fault-refused (servedBy s) l accepted h f) ∙ e
       go (isSound x) = absurd (gives-refused (sym (sound-allowed (servedBy s) l accepted x) ∙ e))

@@ -33,7 +33,7 @@ use Rattle.watch_rules.proofs.Order.{le-yes, by-order}
 use Rattle.watch_rules.proofs.Calls.{refused-answer, granted-answer}
 use Rattle.watch_rules.proofs.Answers.{in-range}
 use Rattle.watch_rules.proofs.Words.{is-some, some-is}
-use Rattle.watch_rules.proofs.Faults.{fault-within, fault-number, Judged, isLong, hasFault, isSound, judged, long-refused, fault-refused, sound-allowed}
+use Rattle.watch_rules.proofs.Faults.{fault-within, fault-number, ListKind, isLong, hasFault, isSound, list-kind, long-refused, fault-refused, sound-allowed}
 
 -- ---- the tests in the table's words
 
@@ -79,7 +79,7 @@ module _ (p : Plain) where
   idle-row k e row =
       refused-by (serves (p .serving)) why.NotWatched accepted e (λ s q. known q (row (serves-none (p .serving) s))) (λ s q. absurd (gives-refused q))
 
-  list-row : (l : List ℕ) (n : Reason) → allowed (seen p) (newList l) ≡ refused n → Judged p l → Refuses p (newList l) n
+  list-row : (l : List ℕ) (n : Reason) → allowed (seen p) (newList l) ≡ refused n → ListKind p l → Refuses p (newList l) n
   list-row l n e (isLong h) = known (same-reason (long-refused p l _ h) e) (listTooLong l h)
   list-row l n e (hasFault place m h f) = known (same-reason (fault-refused p l _ h f) e) (listFaulty l place m h f)
   list-row l n e (isSound x) = idle-row (newList l) (sym (sound-allowed p l _ x) ∙ e) (listIdle l x)
@@ -93,7 +93,7 @@ module _ (p : Plain) where
       (λ b z. refused-by (channelInRange c) why.ChannelOutOfRange accepted z
       (λ a q. known q (startAbove c d (depth-low d b) (depth-high d b) (leb-false c 1087 a)))
       (λ a q. absurd (gives-refused q)))
-  row-of (newList l) n e = list-row l n e (judged p l)
+  row-of (newList l) n e = list-row l n e (list-kind p l)
   row-of (move c) n e =
       refused-by (p .neighbour c) why.NotWatched accepted e (λ b q. known q (moveNotListed c b)) (λ b q. absurd (gives-refused q))
   row-of (file c b) n e =

@@ -1,5 +1,6 @@
 -- Document 01, sections The watch and Refusal numbers: when a call is refused, and what it answers. The rules speak of what a watch
--- shows: its depth, who serves, who is a neighbour, and the levels of each channel. So they know no places, and the plain watch shares them.
+-- shows: its depth, who serves, who is a neighbour, and the levels of each channel. So the plain watch shares them, and none knows a place but the
+-- one that says what is wrong with a list.
 use Prim.Native.Nat.{ℕ, zero, suc}
 use mathlib.Core.Bool.{Bool, true, false, not, cond, _&&_, _||_}
 use mathlib.Core.List.{List, [], _∷_, _++_}

@@ -52,18 +52,18 @@ module _ (c : tie.After-list-fault) where
 
 -- where no fault was found
 module _ (c : tie.After-enum-told) where
-  abbrev judged : tie.After-list-fault
-  judged = c .before .before
+  abbrev looked : tie.After-list-fault
+  looked = c .before .before
 
-  sound : listSound (first (rows (watch judged))) (list judged) ≡ true
-  sound = passes-sound (first (rows (watch judged))) (list judged) refusal.accepted (found judged ∙ ap toldOutcome (c .enum-told .given .1)) .0
+  sound : listSound (first (rows (watch looked))) (list looked) ≡ true
+  sound = passes-sound (first (rows (watch looked))) (list looked) refusal.accepted (found looked ∙ ap toldOutcome (c .enum-told .given .1)) .0
 
-  passes : (a : Told Unit) → unlessFaulty (first (rows (watch judged))) (list judged) a ≡ a
-  passes = sound-passes (first (rows (watch judged))) (list judged) sound
+  passes : (a : Told Unit) → unlessFaulty (first (rows (watch looked))) (list looked) a ≡ a
+  passes = sound-passes (first (rows (watch looked))) (list looked) sound
 
-  short : length (list judged) ≤ listLimit
+  short : length (list looked) ≤ listLimit
   short =
-      let l = list judged in
+      let l = list looked in
       leb-true (length l) listLimit (and-left (leb (length l) listLimit) _ (and-left (leb (length l) listLimit && every channelInRange l) _ sound))
 
 well-formed-requires : tie.Need-well-formed-requires
@@ -107,7 +107,7 @@ refused-requires-3 c κs = search needs
 returns-3 : tie.Need-returns-3
 returns-3 c =
     let t = c .before .before in
-    let j = judged t in
+    let j = looked t in
     let w = watch j in
     c .refused3 .ensures
     ∙ sym (called-refused w (newList (list j)) (formed j)
@@ -117,8 +117,8 @@ returns-3 c =
 relist-requires : tie.Need-relist-requires
 relist-requires c κs =
     let t = c .before in
-    let w = watch (judged t) in
-    let f = formed (judged t) in
+    let w = watch (looked t) in
+    let f = formed (looked t) in
     let z : w .watched ≡ 0 → ⊥ = c .if2 .left in
     (omega arith, formed-short w f, formed-tracks w f, short t)
 
@@ -129,7 +129,7 @@ returns-4 : tie.Need-returns-4
 returns-4 c =
     let e2 = c .before .before in
     let t = e2 .before in
-    let j = judged t in
+    let j = looked t in
     let w = watch j in
     let z : w .watched ≡ 0 → ⊥ = e2 .if2 .left in
     c .answered .ensures
