@@ -1,10 +1,12 @@
 -- The chain of refusals: a test that fails refuses, one that holds goes on to the next.
+use Prim.Native.Nat.{ℕ}
 use mathlib.Core.Path.{_≡_, refl, sym, ap, _∙_}
 use mathlib.Core.Bool.{Bool, true, false}
 use Rattle.refusal.specs.declared.Refusal.{Refusal}
 use Rattle.refusal.specs.declared.Reason.{Reason}
 use Rattle.refusal.specs.Number.{reasonOf}
-use Rattle.refusal.specs.Told.{Told, refused, gives, refusedFor, provided, acceptance}
+use Rattle.refusal.specs.Told.{Told, refused, gives, accepted, refusedFor, provided, acceptance}
+use Rattle.refusal.specs.Claims.{ToldRule}
 use Rattle.refusal.proofs.OneToOne.{gives-refused}
 
 -- one answer has one reason
@@ -36,3 +38,22 @@ module _ {A : Type 0} where
       → (b ≡ false → reasonOf r ≡ n → P) → (b ≡ true → a ≡ refused n → P) → P
   refused-by true r a e f g = g refl e
   refused-by false r a e f g = f refl (same-reason refl e)
+
+-- ---- the words themselves
+
+accepted-gives : (a : Told ℕ) → acceptance a ≡ accepted → (x : ℕ) × (a ≡ gives x)
+accepted-gives (gives x) e = (x, refl)
+accepted-gives (refused n) e = absurd (gives-refused (sym e))
+
+pub toldRule : ToldRule
+toldRule =
+    record {
+      holds = λ r a. refl;
+      fails = λ r a. refl;
+      accepts = λ a. (accepted-gives a, λ h. ap acceptance (h .1));
+      refuses = λ a n. (acceptance-refused a, ap acceptance);
+      given = λ x. refl;
+      notGiven = λ n x. refl;
+      changed = λ before after. refl;
+      unchanged = λ n before after. refl;
+    }

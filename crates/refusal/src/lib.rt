@@ -1,7 +1,7 @@
 // Document 01's table of refusals, with what document 02 adds: why a call is refused, and what crews and support are told of it.
 ghost use mathlib.Core.Path.{_≡_};
 ghost use Rattle.refusal.specs.Number.{reasonOf, numberOf};
-ghost use Rattle.refusal.specs.Claims.{ReasonsDiffer, OutcomesDiffer, NumbersRule};
+ghost use Rattle.refusal.specs.Claims.{ReasonsDiffer, OutcomesDiffer, NumbersRule, ToldRule};
 
 // A place is counted from 0.
 pub enum Refusal {
@@ -78,4 +78,5 @@ pub fn claimed()
     ensures reasons { λ _. ⌜ ReasonsDiffer ⌝ }
     ensures outcomes { λ _. ⌜ OutcomesDiffer ⌝ }
     ensures numbers { λ _. ⌜ NumbersRule ⌝ }
+    ensures words { λ _. ⌜ ToldRule ⌝ }
 {}
