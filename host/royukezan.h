@@ -556,7 +556,7 @@ royukezan_sent_answer royukezan_power_step_failed(royukezan_power_record *r, roy
  *     royukezan_sweep_next              9500   9500
  *     royukezan_sweep_counts            9300   9300
  *     royukezan_sweep_check             9300   9300
- *     royukezan_choose                 13900  13900
+ *     royukezan_choose                 13800  13800
  *     royukezan_watch_fresh              700
  *     royukezan_watch_start             2100   2100
  *     royukezan_watch_new_list          2800   2800

@@ -40,7 +40,7 @@ use watch_rules::Handed;
 // The number of an accepted call.
 const ACCEPTED: u32 = 0;
 
-// Where no place is told. A place has 16 bits.
+// Where no place is told: no place is so high.
 const NO_PLACE: u32 = 4294967295;
 
 // The cases of a next channel, of a choice and of a verdict. A refused call has none of them: 0.
@@ -222,7 +222,7 @@ fn refusal_place(why: Refusal) -> u32
 {
     match refusal::told(why) {
         Reason::Alone(_) => NO_PLACE,
-        Reason::At { number: _, place } => place as u32,
+        Reason::At { number: _, place } => place,
     }
 }
 

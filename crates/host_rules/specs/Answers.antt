@@ -42,7 +42,7 @@ abbrev pub refusalNumber : {A : Type 0} → Told A → ℕ
 refusalNumber (gives v) = acceptedNumber
 refusalNumber (refused n) = numberIn n
 
--- where no place is told: no place is so high, as a place has 16 bits
+-- where no place is told: no place is so high, as a list has six
 abbrev pub noPlace : ℕ
 noPlace = 4294967295
 

@@ -24,17 +24,17 @@ pub enum Refusal {
     // 11: a list of over 6 channels
     ListTooLong,
     // 12: a channel of a list above 1,087, with its place
-    ListedOutOfRange(u16),
+    ListedOutOfRange(u32),
     // 13: a channel of a list that stands at an earlier place too, with its place
-    ListedAgain(u16),
+    ListedAgain(u32),
     // 14: the serving channel in a list, with its place
-    ListedServing(u16),
+    ListedServing(u32),
 }
 
 // What is told of a refusal: its number alone, or its number at a place.
 pub enum Reason {
     Alone(u32),
-    At { number: u32, place: u16 },
+    At { number: u32, place: u32 },
 }
 
 // What a call that gives no value answers.

@@ -77,7 +77,7 @@ fn first_fault(list: &[u16], watched: usize, serving: u16) -> Outcome
     let mut i = 0;
     while i < n {
         let c = list[i];
-        let place = i as u16;
+        let place = i as u32;
         if c > CHANNEL_HIGHEST {
             return Outcome::Refused(Refusal::ListedOutOfRange(place));
         }
