@@ -1,4 +1,4 @@
-/* What no session reaches, tried through the archive: records that are not well formed, the depth that a watch holds, every kind of faulty list
+/* What no session reaches, tried through the archive: records that are not well formed, the depth that a watch holds, new beams of every kind
  * in both forms, the calls that no line asks for, empty lists, and the header's names against the numbers of the archive. A damaged record is
  * refused by every call with 9, whatever else is wrong, and is left or handed back as it was. */
 #include "beyond.h"
@@ -18,7 +18,7 @@ static int is_9(uint32_t refusal)
     return refusal == ROYUKEZAN_RECORD_NOT_WELL_FORMED;
 }
 
-static int list_is(royukezan_list_answer a, uint32_t refusal, uint32_t place)
+static int beam_is(royukezan_beam_answer a, uint32_t refusal, uint32_t place)
 {
     return a.refusal == refusal && a.place == place;
 }
@@ -100,8 +100,8 @@ static int watch_handed_back(const royukezan_watch *damaged)
     static const uint16_t list[] = {42, 42};
     const royukezan_watch_outcome outcomes[] = {
         royukezan_watch_start_by_value(*damaged, UINT16_MAX, SIZE_MAX),
-        royukezan_watch_new_list_by_value(*damaged, list, LENGTH(list)),
-        royukezan_watch_move_to_by_value(*damaged, 118),
+        royukezan_watch_new_beam_by_value(*damaged, UINT16_MAX, list, LENGTH(list)),
+        royukezan_watch_new_beam_by_value(*damaged, 118, list, 1),
         royukezan_watch_file_heard_by_value(*damaged, 42, NAN, 0.0f),
         royukezan_watch_file_missed_by_value(*damaged, UINT16_MAX),
     };
@@ -113,24 +113,26 @@ static int watch_handed_back(const royukezan_watch *damaged)
 
 static int watch_refused(const royukezan_watch *damaged)
 {
+    static const uint16_t list[] = {310};
     royukezan_watch lent = *damaged;
     royukezan_levels_answer levels = royukezan_watch_ask(damaged, 42);
     royukezan_verdict_answer verdict = royukezan_watch_verdict(damaged, -1);
     return is_9(levels.refusal) && levels.count == 0 && levels.mean == 0
         && is_9(verdict.refusal) && verdict.verdict == 0 && verdict.channel == 0
         && is_9(royukezan_watch_check(damaged)) && is_9(royukezan_watch_start(&lent, 310, 15))
-        && list_is(royukezan_watch_new_list(&lent, NULL, 0), ROYUKEZAN_RECORD_NOT_WELL_FORMED, ROYUKEZAN_NO_PLACE)
-        && is_9(royukezan_watch_move_to(&lent, 42))
+        && beam_is(royukezan_watch_new_beam(&lent, 1088, NULL, 0), ROYUKEZAN_RECORD_NOT_WELL_FORMED, ROYUKEZAN_NO_PLACE)
+        && beam_is(royukezan_watch_new_beam(&lent, 42, list, 1), ROYUKEZAN_RECORD_NOT_WELL_FORMED, ROYUKEZAN_NO_PLACE)
         && is_9(royukezan_watch_file_heard(&lent, 42, -94.2f, 9.1f)) && is_9(royukezan_watch_file_missed(&lent, 42))
         && same_watch(&lent, damaged) && watch_handed_back(damaged);
 }
 
-/* A watch of depth 15 with channel 310 serving, neighbour 42 with two levels and neighbour 118 with none. */
+/* A watch of depth 15 with channel 310 serving, with one level, neighbour 42 with two levels and neighbour 118 with none. */
 static int sound_watch(royukezan_watch *w)
 {
     static const uint16_t list[] = {42, 118};
     uint32_t refusal = royukezan_watch_start(w, 310, 15);
-    refusal |= royukezan_watch_new_list(w, list, LENGTH(list)).refusal;
+    refusal |= royukezan_watch_new_beam(w, 310, list, LENGTH(list)).refusal;
+    refusal |= royukezan_watch_file_heard(w, 310, -98.5f, 7.2f);
     refusal |= royukezan_watch_file_heard(w, 42, -94.2f, 9.1f);
     refusal |= royukezan_watch_file_heard(w, 42, -94.2f, 9.1f);
     return refusal == ROYUKEZAN_ACCEPTED && royukezan_watch_check(w) == ROYUKEZAN_ACCEPTED;
@@ -221,13 +223,13 @@ static int watch_starts_refused(void)
     return refused;
 }
 
-/* A watch started with this depth, from whatever it was: the depth stays through a list, filings and a move; a channel keeps so many levels,
- * and the verdict waits for as many. */
+/* A watch started with this depth, from whatever it was: the depth stays through new beams and filings; a channel keeps so many levels, and the
+ * verdict waits for as many. */
 static int has_depth(royukezan_watch *w, size_t depth)
 {
-    static const uint16_t list[] = {42, 118};
+    static const uint16_t list[] = {42, 118}, eastern[] = {118, 310};
     int holds = royukezan_watch_start(w, 310, depth) == ROYUKEZAN_ACCEPTED && w->depth == depth && w->watched == 1
-        && royukezan_watch_new_list(w, list, LENGTH(list)).refusal == ROYUKEZAN_ACCEPTED;
+        && royukezan_watch_new_beam(w, 310, list, LENGTH(list)).refusal == ROYUKEZAN_ACCEPTED;
     for (size_t i = 0; i < depth; i++)
         holds = holds && royukezan_watch_verdict(w, 0).verdict == ROYUKEZAN_VERDICT_WAIT && royukezan_watch_ask(w, 310).count == i
             && royukezan_watch_file_heard(w, 310, -98.5f, 7.2f) == ROYUKEZAN_ACCEPTED
@@ -235,7 +237,9 @@ static int has_depth(royukezan_watch *w, size_t depth)
     return holds && royukezan_watch_verdict(w, 430).verdict == ROYUKEZAN_VERDICT_STAY
         && royukezan_watch_verdict(w, 429).verdict == ROYUKEZAN_VERDICT_MOVE
         && royukezan_watch_file_heard(w, 310, -98.5f, 7.2f) == ROYUKEZAN_ACCEPTED && royukezan_watch_ask(w, 310).count == depth
-        && royukezan_watch_move_to(w, 42) == ROYUKEZAN_ACCEPTED && royukezan_watch_ask(w, 310).count == depth
+        && royukezan_watch_new_beam(w, 42, eastern, LENGTH(eastern)).refusal == ROYUKEZAN_ACCEPTED
+        && royukezan_watch_ask(w, 310).count == depth && royukezan_watch_ask(w, 42).count == depth
+        && royukezan_watch_new_beam(w, 700, eastern, LENGTH(eastern)).refusal == ROYUKEZAN_ACCEPTED
         && w->depth == depth && royukezan_watch_check(w) == ROYUKEZAN_ACCEPTED;
 }
 
@@ -249,14 +253,14 @@ static int depths_are_kept(void)
 }
 
 
-/* ---- Lists, on an idle watch and on a sound one. */
+/* ---- New beams, on an idle watch and on a sound one. */
 
-/* The fault of one place of a list, by the rules: range, serving channel, repeat of an earlier place. */
-static uint32_t fault_at(const royukezan_watch *w, const uint16_t *list, size_t place)
+/* The fault of one place of a list, by the rules: range, the serving channel that the list comes with, repeat of an earlier place. */
+static uint32_t fault_at(uint16_t serving, const uint16_t *list, size_t place)
 {
     if (list[place] >= ROYUKEZAN_CHANNELS)
         return ROYUKEZAN_LISTED_OUT_OF_RANGE;
-    if (w->watched != 0 && list[place] == w->tracks[0].channel)
+    if (list[place] == serving)
         return ROYUKEZAN_LISTED_SERVING;
     for (size_t earlier = 0; earlier < place; earlier++)
         if (list[earlier] == list[place])
@@ -264,14 +268,17 @@ static uint32_t fault_at(const royukezan_watch *w, const uint16_t *list, size_t 
     return ROYUKEZAN_ACCEPTED;
 }
 
-/* What a new list has to answer, by the rules. */
-static royukezan_list_answer list_answer(const royukezan_watch *w, const uint16_t *list, size_t length)
+/* What a new beam has to answer, by the rules. */
+static royukezan_beam_answer beam_answer(const royukezan_watch *w, uint16_t serving, const uint16_t *list, size_t length)
 {
-    royukezan_list_answer a = {ROYUKEZAN_LIST_TOO_LONG, ROYUKEZAN_NO_PLACE};
+    royukezan_beam_answer a = {ROYUKEZAN_CHANNEL_OUT_OF_RANGE, ROYUKEZAN_NO_PLACE};
+    if (serving >= ROYUKEZAN_CHANNELS)
+        return a;
+    a.refusal = ROYUKEZAN_LIST_TOO_LONG;
     if (length > ROYUKEZAN_LIST_LIMIT)
         return a;
     for (uint32_t place = 0; place < length; place++) {
-        a.refusal = fault_at(w, list, place);
+        a.refusal = fault_at(serving, list, place);
         a.place = place;
         if (a.refusal != ROYUKEZAN_ACCEPTED)
             return a;
@@ -279,6 +286,28 @@ static royukezan_list_answer list_answer(const royukezan_watch *w, const uint16_
     a.refusal = w->watched == 0 ? ROYUKEZAN_NOT_WATCHED : ROYUKEZAN_ACCEPTED;
     a.place = ROYUKEZAN_NO_PLACE;
     return a;
+}
+
+/* The channel with the levels that it had, in whichever role; without any where it was not watched. */
+static royukezan_track kept(const royukezan_watch *w, uint16_t channel)
+{
+    royukezan_track t = {channel, 0, {0}};
+    for (size_t i = 0; i < w->watched; i++)
+        if (w->tracks[i].channel == channel)
+            t = w->tracks[i];
+    return t;
+}
+
+/* The watch that an accepted new beam has to leave, by the rules. */
+static royukezan_watch beam_watch(const royukezan_watch *w, uint16_t serving, const uint16_t *list, size_t length)
+{
+    royukezan_watch left = royukezan_watch_fresh();
+    left.watched = 1 + length;
+    left.depth = w->depth;
+    left.tracks[0] = kept(w, serving);
+    for (size_t i = 0; i < length; i++)
+        left.tracks[1 + i] = kept(w, list[i]);
+    return left;
 }
 
 /* Sets the bytes between the fields as well, so that all the bytes of a watch can be compared. */
@@ -289,24 +318,26 @@ static void paint_padding(royukezan_watch *w)
         memset((unsigned char *)&w->tracks[i] + from, 0xa5, offsetof(royukezan_track, count) - from);
 }
 
-/* Both forms answer as the rules say. Refused, every byte of a lent watch stays; accepted, it is what the form by value hands back. */
-static int list_told(const royukezan_watch *w, const uint16_t *list, size_t length)
+/* Both forms answer as the rules say. Refused, every byte of a lent watch stays; accepted, both leave the watch that the rules say. */
+static int beam_told(const royukezan_watch *w, uint16_t serving, const uint16_t *list, size_t length)
 {
-    const royukezan_list_answer told = list_answer(w, list, length);
+    const royukezan_beam_answer told = beam_answer(w, serving, list, length);
     royukezan_watch lent = *w, before;
     paint_padding(&lent);
     memcpy(&before, &lent, sizeof lent);
-    royukezan_watch_outcome o = royukezan_watch_new_list_by_value(lent, list, length);
-    if (o.refusal != told.refusal || o.place != told.place || !list_is(royukezan_watch_new_list(&lent, list, length), told.refusal, told.place))
+    royukezan_watch_outcome o = royukezan_watch_new_beam_by_value(lent, serving, list, length);
+    royukezan_beam_answer a = royukezan_watch_new_beam(&lent, serving, list, length);
+    if (o.refusal != told.refusal || o.place != told.place || !beam_is(a, told.refusal, told.place))
         return 0;
-    if (told.refusal == ROYUKEZAN_ACCEPTED)
-        return same_watch(&lent, &o.watch) && lent.watched == 1 + length && royukezan_watch_check(&lent) == ROYUKEZAN_ACCEPTED;
-    return memcmp(&lent, &before, sizeof lent) == 0 && same_watch(&o.watch, w);
+    if (told.refusal != ROYUKEZAN_ACCEPTED)
+        return memcmp(&lent, &before, sizeof lent) == 0 && same_watch(&o.watch, w);
+    royukezan_watch left = beam_watch(w, serving, list, length);
+    return same_watch(&lent, &left) && same_watch(&o.watch, &left) && royukezan_watch_check(&lent) == ROYUKEZAN_ACCEPTED;
 }
 
-/* Every list of so many of these channels. 310 serves in a sound watch, and the five others within the range let a fault come first at any
- * place; in an idle one nobody serves, not 0 either. */
-static int lists_of(const royukezan_watch *w, size_t length)
+/* Every list of so many of these channels. In a sound watch 310 serves, and 42 and 118 are its neighbours; the six within the range let a fault
+ * come first at any place. */
+static int lists_of(const royukezan_watch *w, uint16_t serving, size_t length)
 {
     static const uint16_t channels[] = {0, 42, 118, 205, 310, 1087, 1088, UINT16_MAX};
     uint16_t list[ROYUKEZAN_LIST_LIMIT] = {0};
@@ -317,14 +348,14 @@ static int lists_of(const royukezan_watch *w, size_t length)
         size_t rest = number;
         for (size_t i = 0; i < length; i++, rest /= LENGTH(channels))
             list[i] = channels[rest % LENGTH(channels)];
-        if (!list_told(w, list, length))
+        if (!beam_told(w, serving, list, length))
             return 0;
     }
     return 1;
 }
 
 /* Longer lists than a line has, and such as narrower numbers would take for short ones. */
-static int long_lists(const royukezan_watch *w)
+static int long_lists(const royukezan_watch *w, uint16_t serving)
 {
     static const size_t lengths[] = {7, 8, 9, 256, 256 + 2, 65536, 65536 + 2};
     static uint16_t list[65536 + 2];
@@ -332,21 +363,55 @@ static int long_lists(const royukezan_watch *w)
     for (size_t i = 0; i < LENGTH(lengths); i++) {
         list[0] = 1;
         list[1] = 2;
-        told = told && list_told(w, list, lengths[i]);
+        told = told && beam_told(w, serving, list, lengths[i]);
         list[0] = UINT16_MAX;
-        told = told && list_told(w, list, lengths[i]);
+        told = told && beam_told(w, serving, list, lengths[i]);
     }
     return told;
 }
 
-static int lists_are_told(void)
+/* The channel that serves in a sound watch, a neighbour of it, strangers, and such as are none. */
+static int beams_are_told(void)
 {
+    static const uint16_t servings[] = {310, 42, 205, 0, 1087, 1088, UINT16_MAX};
     royukezan_watch watches[2] = {royukezan_watch_fresh(), royukezan_watch_fresh()};
     int told = sound_watch(&watches[1]);
-    for (size_t i = 0; i < LENGTH(watches); i++) {
+    for (size_t i = 0; i < LENGTH(watches) * LENGTH(servings); i++) {
+        const royukezan_watch *w = &watches[i % LENGTH(watches)];
+        const uint16_t serving = servings[i / LENGTH(watches)];
         for (size_t length = 0; length <= ROYUKEZAN_LIST_LIMIT; length++)
-            told = told && lists_of(&watches[i], length);
-        told = told && long_lists(&watches[i]);
+            told = told && lists_of(w, serving, length);
+        told = told && long_lists(w, serving);
+    }
+    return told;
+}
+
+/* Beams of one evening, one after the other: how many levels each channel has then, or that it is not watched. */
+static int evening_is_told(void)
+{
+    enum { NOT_WATCHED = UINT16_MAX };
+    static const uint16_t channels[] = {310, 42, 118, 700};
+    static const struct {
+        uint16_t serving, list[3];
+        size_t length;
+        uint16_t counts[LENGTH(channels)];
+    } beams[] = {
+        {42, {310, 118}, 2, {1, 2, 0, NOT_WATCHED}}, /* a neighbour serves, the channel that served is in its list: both keep theirs */
+        {42, {118, 310}, 2, {1, 2, 0, NOT_WATCHED}}, /* the same channel goes on */
+        {700, {42, 310}, 2, {1, 2, NOT_WATCHED, 0}}, /* a stranger serves */
+        {310, {700, 118}, 2, {1, NOT_WATCHED, 0, 0}}, /* a neighbour serves, the one that was dropped before is back */
+        {700, {118}, 1, {NOT_WATCHED, NOT_WATCHED, 0, 0}}, /* the channel that served is dropped .. */
+        {310, {118, 42, 700}, 3, {0, 0, 0, 0}}, /* .. and is back without levels */
+    };
+    royukezan_watch w = royukezan_watch_fresh();
+    int told = sound_watch(&w);
+    for (size_t i = 0; i < LENGTH(beams); i++) {
+        told = told && royukezan_watch_new_beam(&w, beams[i].serving, beams[i].list, beams[i].length).refusal == ROYUKEZAN_ACCEPTED
+            && w.tracks[0].channel == beams[i].serving;
+        for (size_t j = 0; j < LENGTH(channels); j++) {
+            royukezan_levels_answer a = royukezan_watch_ask(&w, channels[j]);
+            told = told && (beams[i].counts[j] == NOT_WATCHED ? a.refusal == ROYUKEZAN_NOT_WATCHED : a.count == beams[i].counts[j]);
+        }
     }
     return told;
 }
@@ -363,8 +428,6 @@ static int no_place_is_told(void)
     } calls[] = {
         {royukezan_watch_start_by_value(w, 310, 15), ROYUKEZAN_ACCEPTED},
         {royukezan_watch_start_by_value(w, 1088, 15), ROYUKEZAN_CHANNEL_OUT_OF_RANGE},
-        {royukezan_watch_move_to_by_value(w, 42), ROYUKEZAN_ACCEPTED},
-        {royukezan_watch_move_to_by_value(w, 310), ROYUKEZAN_NOT_WATCHED},
         {royukezan_watch_file_heard_by_value(w, 42, -94.2f, 9.1f), ROYUKEZAN_ACCEPTED},
         {royukezan_watch_file_heard_by_value(w, 43, -94.2f, 9.1f), ROYUKEZAN_NOT_WATCHED},
         {royukezan_watch_file_heard_by_value(w, 42, -94.2f, NAN), ROYUKEZAN_READING_OUT_OF_RANGE},
@@ -490,13 +553,15 @@ static int fresh_is_zero(void)
     return same_sweep(&s, &zero_sweep) && same_watch(&w, &zero_watch);
 }
 
-/* An empty list drops the neighbours, and an empty string of outcomes is refused, also where no pointer comes with them. */
+/* An empty list drops the neighbours, whoever serves, and an empty string of outcomes is refused, also where no pointer comes with them. */
 static int empty_is_taken(void)
 {
     royukezan_sweep s = royukezan_sweep_fresh();
-    royukezan_watch w = royukezan_watch_fresh();
-    return sound_watch(&w) && list_is(royukezan_watch_new_list(&w, NULL, 0), ROYUKEZAN_ACCEPTED, ROYUKEZAN_NO_PLACE) && w.watched == 1
-        && royukezan_watch_ask(&w, 42).refusal == ROYUKEZAN_NOT_WATCHED
+    royukezan_watch w = royukezan_watch_fresh(), idle = w;
+    return beam_is(royukezan_watch_new_beam(&idle, 310, NULL, 0), ROYUKEZAN_NOT_WATCHED, ROYUKEZAN_NO_PLACE) && sound_watch(&w)
+        && beam_is(royukezan_watch_new_beam(&w, 1088, NULL, 0), ROYUKEZAN_CHANNEL_OUT_OF_RANGE, ROYUKEZAN_NO_PLACE) && w.watched == 3
+        && beam_is(royukezan_watch_new_beam(&w, 42, NULL, 0), ROYUKEZAN_ACCEPTED, ROYUKEZAN_NO_PLACE) && w.watched == 1
+        && royukezan_watch_ask(&w, 42).count == 2 && royukezan_watch_ask(&w, 310).refusal == ROYUKEZAN_NOT_WATCHED
         && royukezan_choose(&s, 300, NULL, 0).refusal == ROYUKEZAN_OUTCOMES_FAULTY;
 }
 
@@ -550,8 +615,9 @@ static int refusals_have_names(void)
         && royukezan_watch_start(&w, ROYUKEZAN_CHANNELS - 1, ROYUKEZAN_DEPTH_HIGHEST + 1) == ROYUKEZAN_PARAMETER_OUT_OF_RANGE
         && royukezan_watch_start(&w, ROYUKEZAN_CHANNELS - 1, ROYUKEZAN_DEPTH_LOWEST) == ROYUKEZAN_ACCEPTED
         && royukezan_watch_start(&w, ROYUKEZAN_CHANNELS - 1, ROYUKEZAN_DEPTH_HIGHEST) == ROYUKEZAN_ACCEPTED
-        && royukezan_watch_new_list(&w, list, ROYUKEZAN_LIST_LIMIT + 1).refusal == ROYUKEZAN_LIST_TOO_LONG
-        && royukezan_watch_new_list(&w, list, ROYUKEZAN_LIST_LIMIT).refusal == ROYUKEZAN_ACCEPTED;
+        && royukezan_watch_new_beam(&w, ROYUKEZAN_CHANNELS, list, ROYUKEZAN_LIST_LIMIT + 1).refusal == ROYUKEZAN_CHANNEL_OUT_OF_RANGE
+        && royukezan_watch_new_beam(&w, ROYUKEZAN_CHANNELS - 1, list, ROYUKEZAN_LIST_LIMIT + 1).refusal == ROYUKEZAN_LIST_TOO_LONG
+        && royukezan_watch_new_beam(&w, ROYUKEZAN_CHANNELS - 1, list, ROYUKEZAN_LIST_LIMIT).refusal == ROYUKEZAN_ACCEPTED;
 }
 
 const char *beyond_sessions(void)
@@ -565,7 +631,8 @@ const char *beyond_sessions(void)
         {depths_refused, "a watch that holds a wrong depth is not refused as it should be"},
         {watch_starts_refused, "a start of a watch that is refused is not refused as it should be, or changes the watch"},
         {depths_are_kept, "a watch does not keep the depth of its start"},
-        {lists_are_told, "a list is not answered as it should be, or a refused one changes the watch"},
+        {beams_are_told, "a new beam is not answered as it should be, leaves another watch, or changes it where it is refused"},
+        {evening_is_told, "a channel does not keep its levels from beam to beam, or has some when it comes back"},
         {no_place_is_told, "a call that tells no place answers one"},
         {damaged_power_refused, "a power record that is not well formed is not refused as it should be"},
         {start_refused, "a power start or step that is refused does not leave the record as it should"},

@@ -10,7 +10,7 @@
 #include "royukezan.h"
 
 #define LONGEST_LINE 200
-#define MOST_WORDS 9
+#define MOST_WORDS 10 /* of a new beam: its name, the serving channel and 8 of its list */
 #define RECORDED_DEPTH 15 /* of a start that names none: recorded sessions have such lines */
 
 /* What a session keeps from line to line. All zeros, it is a session that begins. */
@@ -56,7 +56,7 @@ static void say_accepted(uint32_t refusal)
         puts("accepted");
 }
 
-static void say_list(royukezan_list_answer a)
+static void say_beam(royukezan_beam_answer a)
 {
     if (!refused_at(a.refusal, a.place))
         puts("accepted");
@@ -182,17 +182,14 @@ static void start(session *s, const numbers *n)
     say_accepted(royukezan_watch_start(&s->watch, (uint16_t)n->wholes[0], depth));
 }
 
-static void new_list(session *s, const numbers *n)
+/* The serving channel, then its list. */
+static void new_beam(session *s, const numbers *n)
 {
     uint16_t list[MOST_WORDS];
-    for (size_t i = 0; i < n->whole_count; i++)
-        list[i] = (uint16_t)n->wholes[i];
-    say_list(royukezan_watch_new_list(&s->watch, list, n->whole_count));
-}
-
-static void move_to(session *s, const numbers *n)
-{
-    say_accepted(royukezan_watch_move_to(&s->watch, (uint16_t)n->wholes[0]));
+    size_t length = n->whole_count - 1;
+    for (size_t i = 0; i < length; i++)
+        list[i] = (uint16_t)n->wholes[1 + i];
+    say_beam(royukezan_watch_new_beam(&s->watch, (uint16_t)n->wholes[0], list, length));
 }
 
 static void file_heard(session *s, const numbers *n)
@@ -291,8 +288,7 @@ static const struct {
     {{"choose", "INT"}, choose},
     {{"start", "CH"}, start},
     {{"start", "CH", "BYTE"}, start},
-    {{"list", REPEATED}, new_list},
-    {{"move", "CH"}, move_to},
+    {{"beam", "CH", REPEATED}, new_beam},
     {{"file", "CH", "heard", "NUM", "NUM"}, file_heard},
     {{"file", "CH", "missed"}, file_missed},
     {{"ask", "CH"}, ask},

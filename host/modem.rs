@@ -39,7 +39,7 @@ type Answer = Option<Result<String, Refusal>>;
 type Call = fn(&mut Terminal, &[&str]) -> Answer;
 
 /// The calls by name. `step failed` stands before `step`, which begins alike.
-const CALLS: [(&[&str], Call); 21] = [
+const CALLS: [(&[&str], Call); 20] = [
     (&["level"], |_, words| hundredths(words, level_to_hundredths)),
     (&["quality"], |_, words| hundredths(words, quality_to_hundredths)),
     (&["show", "level"], |_, words| float(words, level_to_float)),
@@ -80,11 +80,11 @@ const CALLS: [(&[&str], Call); 21] = [
         };
         accepted(t.watch.start(whole(serving)?, depth.into()))
     }),
-    (&["list"], |t, words| {
-        let list: Option<Vec<u16>> = words.iter().map(|word| whole(word)).collect();
-        accepted(t.watch.new_list(&list.filter(|list| list.len() <= LIST_WORDS)?))
+    (&["beam"], |t, words| {
+        let (serving, list) = words.split_first()?;
+        let list: Option<Vec<u16>> = list.iter().map(|word| whole(word)).collect();
+        accepted(t.watch.new_beam(whole(serving)?, &list.filter(|list| list.len() <= LIST_WORDS)?))
     }),
-    (&["move"], |t, words| accepted(t.watch.move_to(whole(one(words)?)?))),
     (&["file"], |t, words| {
         let (channel, burst) = filing(words)?;
         accepted(t.watch.file(channel, burst))
@@ -116,7 +116,7 @@ const CALLS: [(&[&str], Call); 21] = [
 /// The depth of a start that names none: recorded sessions have such lines.
 const RECORDED_DEPTH: u8 = 15;
 
-/// How many channels a line may list; a list of more than 6 is refused.
+/// How many channels the list of a line may have; one of more than 6 is refused.
 const LIST_WORDS: usize = 8;
 
 fn hundredths(words: &[&str], call: fn(f32) -> Result<i32, Refusal>) -> Answer {
@@ -357,8 +357,8 @@ fn damaged_watches_are_refused() -> bool {
         &[
             |w| w.check(),
             |w| w.start(1_088, 32),
-            |w| w.new_list(&[1_088]),
-            |w| w.move_to(0),
+            |w| w.new_beam(1_088, &[1_088]),
+            |w| w.new_beam(0, &[42]),
             |w| w.file_heard(0, f32::NAN, f32::NAN),
             |w| w.file_missed(0),
             |w| w.ask(0).map(drop),

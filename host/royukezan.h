@@ -20,7 +20,7 @@
  *
  * Answers. A call that neither gives a value nor tells a place answers the refusal number alone, 0 for accepted. Every other answer is a
  * struct: first the refusal number, then the values, 0 when refused. The place of a faulty channel in a list, counted from 0, stands right
- * after the refusal number (royukezan_list_answer, royukezan_watch_outcome); ROYUKEZAN_NO_PLACE there means that none is told, and an accepted
+ * after the refusal number (royukezan_beam_answer, royukezan_watch_outcome); ROYUKEZAN_NO_PLACE there means that none is told, and an accepted
  * call has it too. Every value of every argument is taken, and every call ends. The functions allocate nothing and keep nothing between calls.
  *
  * Units. A level or quality as a float is in dBm or dB; in an int32_t, or in the int16_t of a track, it is in whole hundredths of a dB, and so
@@ -72,11 +72,11 @@ extern "C" {
 enum royukezan_refusal {
     ROYUKEZAN_ACCEPTED = 0,
     ROYUKEZAN_READING_OUT_OF_RANGE = 1,   /* a level or quality, as a float or in hundredths, is outside its range */
-    ROYUKEZAN_CHANNEL_OUT_OF_RANGE = 2,   /* a swept channel outside 2 to 1,086; a start channel above 1,087 */
+    ROYUKEZAN_CHANNEL_OUT_OF_RANGE = 2,   /* a swept channel outside 2 to 1,086; a start channel or the serving channel of a new beam
+                                             above 1,087 */
     ROYUKEZAN_CHANNEL_VISITED = 3,        /* a channel already visited in this sweep */
     ROYUKEZAN_SWEEP_UNFINISHED = 4,       /* a choice over an unfinished sweep */
-    ROYUKEZAN_NOT_WATCHED = 6,            /* a filed or asked channel not watched; a move to a channel not in the list; new list or
-                                             verdict on an idle watch */
+    ROYUKEZAN_NOT_WATCHED = 6,            /* a filed or asked channel not watched; new beam or verdict on an idle watch */
     ROYUKEZAN_PARAMETER_OUT_OF_RANGE = 7, /* a margin, hysteresis or power parameter out of range; PANmin above PANmax; a code above 63;
                                              a depth outside 5 to 31 */
     ROYUKEZAN_OUTCOMES_FAULTY = 8,        /* outcome string not 1,088 long, or a byte above 5 */
@@ -84,7 +84,7 @@ enum royukezan_refusal {
     ROYUKEZAN_LIST_TOO_LONG = 11,         /* a list of over 6 channels */
     ROYUKEZAN_LISTED_OUT_OF_RANGE = 12,   /* a channel of a list above 1,087 */
     ROYUKEZAN_LISTED_AGAIN = 13,          /* a channel of a list that repeats an earlier one */
-    ROYUKEZAN_LISTED_SERVING = 14         /* the serving channel in a list */
+    ROYUKEZAN_LISTED_SERVING = 14         /* the serving channel of a new beam in its list */
 };
 
 /* The cases of an answer. A refused one has 0. */
@@ -191,11 +191,11 @@ typedef struct royukezan_choice_answer {
     uint32_t tried;   /* the channel's place in the search order, from 1; for no beam, how many channels lie within the margin */
 } royukezan_choice_answer;
 
-/* A new list: accepted, or what is wrong with it and where. */
-typedef struct royukezan_list_answer {
+/* A new beam: accepted, or what is wrong with it and, in its list, where. */
+typedef struct royukezan_beam_answer {
     uint32_t refusal;
-    uint32_t place; /* of the first faulty channel, counted from 0, with refusals 12 to 14; else ROYUKEZAN_NO_PLACE */
-} royukezan_list_answer;
+    uint32_t place; /* of the first faulty channel of the list, counted from 0, with refusals 12 to 14; else ROYUKEZAN_NO_PLACE */
+} royukezan_beam_answer;
 
 /* The levels of a watched channel. */
 typedef struct royukezan_levels_answer {
@@ -227,7 +227,7 @@ typedef struct royukezan_sweep_outcome {
 
 typedef struct royukezan_watch_outcome {
     uint32_t refusal;
-    uint32_t place; /* of a new list, as in royukezan_list_answer; of any other call ROYUKEZAN_NO_PLACE */
+    uint32_t place; /* of a new beam, as in royukezan_beam_answer; of any other call ROYUKEZAN_NO_PLACE */
     royukezan_watch watch;
 } royukezan_watch_outcome;
 
@@ -298,9 +298,9 @@ ROYUKEZAN_OFFSET(choice_answer, refusal, 0);
 ROYUKEZAN_OFFSET(choice_answer, choice, 4);
 ROYUKEZAN_OFFSET(choice_answer, channel, 6);
 ROYUKEZAN_OFFSET(choice_answer, tried, 8);
-ROYUKEZAN_SIZE(list_answer, 8);
-ROYUKEZAN_OFFSET(list_answer, refusal, 0);
-ROYUKEZAN_OFFSET(list_answer, place, 4);
+ROYUKEZAN_SIZE(beam_answer, 8);
+ROYUKEZAN_OFFSET(beam_answer, refusal, 0);
+ROYUKEZAN_OFFSET(beam_answer, place, 4);
 ROYUKEZAN_SIZE(levels_answer, 12);
 ROYUKEZAN_OFFSET(levels_answer, refusal, 0);
 ROYUKEZAN_OFFSET(levels_answer, count, 4);
@@ -366,8 +366,7 @@ uint32_t royukezan_sweep_check_by_value(royukezan_sweep s);
 royukezan_choice_answer royukezan_choose_by_value(royukezan_sweep s, int32_t margin, const uint8_t *outcomes, size_t length);
 
 royukezan_watch_outcome royukezan_watch_start_by_value(royukezan_watch w, uint16_t serving, size_t depth);
-royukezan_watch_outcome royukezan_watch_new_list_by_value(royukezan_watch w, const uint16_t *list, size_t length);
-royukezan_watch_outcome royukezan_watch_move_to_by_value(royukezan_watch w, uint16_t channel);
+royukezan_watch_outcome royukezan_watch_new_beam_by_value(royukezan_watch w, uint16_t serving, const uint16_t *list, size_t length);
 royukezan_watch_outcome royukezan_watch_file_heard_by_value(royukezan_watch w, uint16_t channel, float level, float quality);
 royukezan_watch_outcome royukezan_watch_file_missed_by_value(royukezan_watch w, uint16_t channel);
 royukezan_levels_answer royukezan_watch_ask_by_value(royukezan_watch w, uint16_t channel);
@@ -451,27 +450,18 @@ static inline uint32_t royukezan_watch_start(royukezan_watch *w, uint16_t servin
     return o.refusal;
 }
 
-/* Replaces the neighbours by a list of 0 to 6 channels. A channel that was watched keeps its levels, whichever place it moves to; a dropped one
- * loses them; a new one has none. The depth stays. Writes *w when accepted. Refusals 9, 11, then 12 to 14 with the place of the first faulty
- * channel, 6. */
-static inline royukezan_list_answer royukezan_watch_new_list(royukezan_watch *w, const uint16_t *list, size_t length)
+/* A new beam: the channel, 0 to 1,087, serves now, and its neighbours are the 0 to 6 other channels of the list. It may be the channel that
+ * serves already, a neighbour or a stranger. A channel watched before and after keeps its levels, in whichever role and at whichever place; a
+ * dropped one loses them; a new one has none. The depth stays. Writes *w when accepted. Refusals 9, 2, 11, then 12 to 14 with the place of the
+ * first faulty channel, 6. */
+static inline royukezan_beam_answer royukezan_watch_new_beam(royukezan_watch *w, uint16_t serving, const uint16_t *list, size_t length)
 {
     const uint16_t none = 0;
-    royukezan_watch_outcome o = royukezan_watch_new_list_by_value(*w, length == 0 ? &none : list, length);
-    royukezan_list_answer a = {o.refusal, o.place};
+    royukezan_watch_outcome o = royukezan_watch_new_beam_by_value(*w, serving, length == 0 ? &none : list, length);
+    royukezan_beam_answer a = {o.refusal, o.place};
     if (o.refusal == ROYUKEZAN_ACCEPTED)
         *w = o.watch;
     return a;
-}
-
-/* Moves to a neighbour: it serves now, and the channel that served takes its place in the list; both keep their levels, and the depth stays.
- * Writes *w when accepted. Refusals 9, 6. */
-static inline uint32_t royukezan_watch_move_to(royukezan_watch *w, uint16_t channel)
-{
-    royukezan_watch_outcome o = royukezan_watch_move_to_by_value(*w, channel);
-    if (o.refusal == ROYUKEZAN_ACCEPTED)
-        *w = o.watch;
-    return o.refusal;
 }
 
 /* Files a heard burst, level in dBm and quality in dB, under a watched channel: the level is its newest, and beyond the depth the oldest
@@ -559,8 +549,7 @@ royukezan_sent_answer royukezan_power_step_failed(royukezan_power_record *r, roy
  *     royukezan_choose                 13800  13800
  *     royukezan_watch_fresh              700
  *     royukezan_watch_start             2100   2100
- *     royukezan_watch_new_list          2800   2800
- *     royukezan_watch_move_to           1900   1900
+ *     royukezan_watch_new_beam          2800   2800
  *     royukezan_watch_file_heard        3200   3200
  *     royukezan_watch_file_missed       3200   3200
  *     royukezan_watch_ask               1400   1400

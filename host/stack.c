@@ -22,7 +22,9 @@ static royukezan_sweep sweep, finished;
 static royukezan_watch watch, evening;
 static royukezan_power_record power;
 static const royukezan_power_parameters parameters = {85, 30, 0, 60, 10, 10, 3};
+/* The lists of channel 310 and of channel 42. */
 static const uint16_t list[ROYUKEZAN_LIST_LIMIT] = {990, 871, 644, 42, 118, 205};
+static const uint16_t eastern[ROYUKEZAN_LIST_LIMIT] = {990, 871, 644, 310, 118, 205};
 static uint8_t outcomes[ROYUKEZAN_CHANNELS];
 
 /* What the calls answer is kept, so that no call is left out. */
@@ -63,10 +65,8 @@ CALL(choose_v, kept = royukezan_choose_by_value(finished, 6000, outcomes, sizeof
 CALL(watch_fresh, kept_watch.watch = royukezan_watch_fresh())
 CALL(watch_start, kept = royukezan_watch_start(&watch, 310, ROYUKEZAN_DEPTH_HIGHEST))
 CALL(watch_start_v, kept_watch = royukezan_watch_start_by_value(watch, 310, ROYUKEZAN_DEPTH_HIGHEST))
-CALL(watch_new_list, kept = royukezan_watch_new_list(&watch, list, ROYUKEZAN_LIST_LIMIT).refusal)
-CALL(watch_new_list_v, kept_watch = royukezan_watch_new_list_by_value(watch, list, ROYUKEZAN_LIST_LIMIT))
-CALL(watch_move_to, kept = royukezan_watch_move_to(&watch, 42))
-CALL(watch_move_to_v, kept_watch = royukezan_watch_move_to_by_value(watch, 42))
+CALL(watch_new_beam, kept = royukezan_watch_new_beam(&watch, 42, eastern, ROYUKEZAN_LIST_LIMIT).refusal)
+CALL(watch_new_beam_v, kept_watch = royukezan_watch_new_beam_by_value(watch, 42, eastern, ROYUKEZAN_LIST_LIMIT))
 CALL(watch_file_heard, kept = royukezan_watch_file_heard(&watch, 42, -94.2f, 9.1f))
 CALL(watch_file_heard_v, kept_watch = royukezan_watch_file_heard_by_value(watch, 42, -94.2f, 9.1f))
 CALL(watch_file_missed, kept = royukezan_watch_file_missed(&watch, 42))
@@ -109,8 +109,7 @@ static const struct {
     BOTH(choose),
     {"watch_fresh", watch_fresh, NULL},
     BOTH(watch_start),
-    BOTH(watch_new_list),
-    BOTH(watch_move_to),
+    BOTH(watch_new_beam),
     BOTH(watch_file_heard),
     BOTH(watch_file_missed),
     BOTH(watch_ask),
@@ -162,7 +161,7 @@ static void prepare(void)
         royukezan_sweep_file_heard(&finished, channel, -94.2f, 9.1f);
     memset(outcomes, ROYUKEZAN_OUTCOME_BARRED, sizeof outcomes);
     royukezan_watch_start(&evening, 310, ROYUKEZAN_DEPTH_HIGHEST);
-    royukezan_watch_new_list(&evening, list, ROYUKEZAN_LIST_LIMIT);
+    royukezan_watch_new_beam(&evening, 310, list, ROYUKEZAN_LIST_LIMIT);
     for (int i = 0; i < ROYUKEZAN_DEPTH_HIGHEST; i++) {
         royukezan_watch_file_heard(&evening, 310, -98.5f, 7.2f);
         royukezan_watch_file_heard(&evening, 42, -94.2f, 9.1f);

@@ -38,8 +38,7 @@ impl Call for SweepCall {
 #[derive(Debug)]
 pub enum WatchCall {
     Start(u16, usize),
-    NewList(Vec<u16>),
-    MoveTo(u16),
+    NewBeam(u16, Vec<u16>),
     File(u16, Burst),
     Ask(u16),
     Verdict(i32),
@@ -53,8 +52,7 @@ impl Call for WatchCall {
     fn make<L: Library>(&self, watch: &mut L::Watch) -> u64 {
         match *self {
             WatchCall::Start(serving, depth) => told(L::start(watch, serving, depth)),
-            WatchCall::NewList(ref list) => told(L::new_list(watch, list)),
-            WatchCall::MoveTo(channel) => told(L::move_to(watch, channel)),
+            WatchCall::NewBeam(serving, ref list) => told(L::new_beam(watch, serving, list)),
             WatchCall::File(channel, burst) => told(L::file(watch, channel, burst)),
             WatchCall::Ask(channel) => told(L::ask(watch, channel)),
             WatchCall::Verdict(hysteresis) => told(L::verdict(watch, hysteresis)),

@@ -208,7 +208,7 @@ fn compare_watches(compared: &mut Compared) {
     for _ in 0..20 {
         let mut pair = Pair::of(&Watch::fresh());
         for _ in 0..20_000 {
-            pair.call(compared, &made_up::watch_call(&dice));
+            pair.call(compared, &made_up::watch_call(&dice, &pair.plain));
             if dice.once_in(8) {
                 let damaged = made_up::damaged_watch(&dice, &pair.plain);
                 for call in made_up::watch_calls(&dice) {
@@ -219,16 +219,16 @@ fn compare_watches(compared: &mut Compared) {
     }
 }
 
-/// Every list of a few channels, and some that are too long, on watches and on an idle one.
-fn compare_lists(compared: &mut Compared) {
+/// New beams with every list of a few channels, and with some that are too long, on watches and on an idle one.
+fn compare_beams(compared: &mut Compared) {
     let lists = made_up::every_list(&Dice::new(19));
-    for calls in made_up::before_lists() {
+    for (calls, serving) in made_up::before_beams() {
         let mut pair = Pair::of(&Watch::fresh());
         for call in &calls {
             pair.call(compared, call);
         }
         for list in &lists {
-            Pair::of(&pair.plain).call(compared, &WatchCall::NewList(list.clone()));
+            Pair::of(&pair.plain).call(compared, &WatchCall::NewBeam(serving, list.clone()));
         }
     }
 }
@@ -277,7 +277,7 @@ pub fn compare_calls(compared: &mut Compared) {
     compare_damaged_sweeps(compared);
     compare_choices(compared);
     compare_watches(compared);
-    compare_lists(compared);
+    compare_beams(compared);
     compare_close_watches(compared);
     compare_power(compared);
 }

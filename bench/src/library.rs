@@ -7,7 +7,8 @@ use std::fmt::{self, Debug};
 use std::ops::Range;
 
 /// A refusal by its number and the place that is told with it, if one is. It is one word, so that an answer with it is
-/// as small as one with a number: the place and 1 stand above the number, or 0.
+/// as small as one with a number: the place and 1 stand above the number, or 0. A list has places 0 to 5; one that
+/// the bits do not hold would be told as the highest that they do.
 #[derive(Clone, Copy, PartialEq, Eq, PartialOrd, Ord)]
 pub struct Refused(u32);
 
@@ -15,8 +16,8 @@ const NUMBER_BITS: u32 = 8;
 
 impl Refused {
     #[inline(always)]
-    pub fn new(number: u32, place: Option<u16>) -> Refused {
-        let told = place.map_or(0, |place| u32::from(place) + 1);
+    pub fn new(number: u32, place: Option<u32>) -> Refused {
+        let told = place.map_or(0, |place| place.saturating_add(1).min(u32::MAX >> NUMBER_BITS));
         Refused(told << NUMBER_BITS | number)
     }
 
@@ -38,7 +39,7 @@ impl Debug for Refused {
 
 /// Every refusal of a faulty list, with each place that it can tell. The first place repeats none.
 pub fn list_refusals() -> BTreeSet<Refused> {
-    let at = |number, places: Range<u16>| places.map(move |place| Refused::new(number, Some(place)));
+    let at = |number, places: Range<u32>| places.map(move |place| Refused::new(number, Some(place)));
     let long = Refused::new(11, None);
     at(12, 0..6).chain(at(13, 1..6)).chain(at(14, 0..6)).chain([long]).collect()
 }
@@ -83,8 +84,7 @@ pub trait Library {
     fn choose(sweep: &Self::Sweep, margin: i32, outcomes: &[u8]) -> Answer<Choice>;
 
     fn start(watch: &mut Self::Watch, serving: u16, depth: usize) -> Answer<()>;
-    fn new_list(watch: &mut Self::Watch, list: &[u16]) -> Answer<()>;
-    fn move_to(watch: &mut Self::Watch, channel: u16) -> Answer<()>;
+    fn new_beam(watch: &mut Self::Watch, serving: u16, list: &[u16]) -> Answer<()>;
     fn file(watch: &mut Self::Watch, channel: u16, burst: Burst) -> Answer<()>;
     fn ask(watch: &Self::Watch, channel: u16) -> Answer<Levels>;
     fn verdict(watch: &Self::Watch, hysteresis: i32) -> Answer<Verdict>;

@@ -172,24 +172,36 @@ pub fn every_list(dice: &Dice) -> Vec<Vec<u16>> {
     lists
 }
 
-/// Calls that lead to the watches for these lists: an idle one, and some in which one of the channels serves.
-pub fn before_lists() -> [Vec<WatchCall>; 4] {
+/// Calls that lead to the watches for these lists, an idle one, and some in which one of the channels serves; each with
+/// a serving channel that the lists come with: the same, a neighbour, a stranger, and one that is none.
+pub fn before_beams() -> [(Vec<WatchCall>, u16); 8] {
     let watching = |serving| {
-        let start = [WatchCall::Start(serving, 5), WatchCall::NewList(vec![7, 3])];
+        let start = [WatchCall::Start(serving, 5), WatchCall::NewBeam(serving, vec![7, 3])];
         let filings = [7, 3, serving, 7].map(|channel| WatchCall::File(channel, heard(-9_000 - i32::from(channel))));
         start.into_iter().chain(filings).collect()
     };
-    [vec![], watching(0), watching(5), watching(1_087)]
+    [
+        (vec![], 0),
+        (vec![], 5),
+        (watching(0), 0),
+        (watching(0), 7),
+        (watching(5), 3),
+        (watching(5), 9),
+        (watching(1_087), 1_087),
+        (watching(1_087), 1_088),
+    ]
 }
 
-/// Any call of a watch; most are filings. Starts are few, so that channels come to all the levels of a high depth.
-pub fn watch_call(dice: &Dice) -> WatchCall {
+/// Any call on this watch; most are filings. Starts are few, and in a new beam mostly the same channel goes on serving,
+/// so that channels come to all the levels of a high depth.
+pub fn watch_call(dice: &Dice, watch: &Watch) -> WatchCall {
     let channel = dice.one_of(&[0, 1, 2, 3, 4, 5, 6, 7, 8, 1_087, 1_088, 65_535]);
+    let (now, watched) = (watch.tracks[0].channel, watch.tracks[dice.below(7) as usize].channel);
+    let serving = if dice.once_in(3) { dice.one_of(&[watched, watched, watched, channel]) } else { now };
     match dice.below(200) {
         0 if dice.once_in(2) => WatchCall::Start(channel, any_depth(dice)),
-        1..=10 => WatchCall::NewList(list(dice)),
-        11..=15 => WatchCall::MoveTo(channel),
-        16..=45 => WatchCall::Verdict(margin(dice)),
+        1..=10 => WatchCall::NewBeam(serving, list(dice)),
+        11..=45 => WatchCall::Verdict(margin(dice)),
         46..=75 => WatchCall::Ask(channel),
         76..=80 => WatchCall::Check,
         _ => WatchCall::File(channel, burst(dice)),
@@ -205,8 +217,8 @@ pub fn watch_calls(dice: &Dice) -> [WatchCall; 8] {
         WatchCall::Verdict(margin(dice)),
         WatchCall::File(channel, burst(dice)),
         WatchCall::File(1_088, Burst::Missed),
-        WatchCall::MoveTo(channel),
-        WatchCall::NewList(list(dice)),
+        WatchCall::NewBeam(channel, list(dice)),
+        WatchCall::NewBeam(dice.one_of(&[channel, 1_087, 1_088]), list(dice)),
         WatchCall::Start(dice.one_of(&[channel, 1_087, 1_088]), any_depth(dice)),
     ]
 }

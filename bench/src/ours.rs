@@ -138,8 +138,7 @@ impl Library for Ours {
         }
 
         start(watch: &mut Self::Watch, serving: u16, depth: usize) -> () { watch.start(serving, depth) }
-        new_list(watch: &mut Self::Watch, list: &[u16]) -> () { watch.new_list(list) }
-        move_to(watch: &mut Self::Watch, channel: u16) -> () { watch.move_to(channel) }
+        new_beam(watch: &mut Self::Watch, serving: u16, list: &[u16]) -> () { watch.new_beam(serving, list) }
         file(watch: &mut Self::Watch, channel: u16, burst: Burst) -> () { watch.file(channel, package_burst(burst)) }
         ask(watch: &Self::Watch, channel: u16) -> Levels {
             watch.ask(channel).map(|levels| Levels { count: levels.count as usize, mean: levels.mean })

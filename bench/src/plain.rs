@@ -15,9 +15,9 @@ pub enum Refusal {
     OutcomesFaulty = 8,
     RecordNotWellFormed = 9,
     ListTooLong = 11,
-    ListedOutOfRange { place: u16 } = 12,
-    ListedAgain { place: u16 } = 13,
-    ListedServing { place: u16 } = 14,
+    ListedOutOfRange { place: u32 } = 12,
+    ListedAgain { place: u32 } = 13,
+    ListedServing { place: u32 } = 14,
 }
 
 impl Refusal {
@@ -42,7 +42,7 @@ impl Refusal {
 
     /// The place of the first faulty channel of a list, where one is told.
     #[inline]
-    pub fn place(self) -> Option<u16> {
+    pub fn place(self) -> Option<u32> {
         use Refusal::{ListedAgain, ListedOutOfRange, ListedServing};
         match self {
             ListedOutOfRange { place } | ListedAgain { place } | ListedServing { place } => Some(place),
@@ -480,6 +480,27 @@ impl Track {
     }
 }
 
+/// Refusal 11, or that of the first faulty channel: 12, 14, 13.
+#[inline]
+fn check_list(serving: u16, list: &[u16]) -> Result<(), Refusal> {
+    if list.len() > LIST_LIMIT {
+        return Err(Refusal::ListTooLong);
+    }
+    for (i, &channel) in list.iter().enumerate() {
+        let place = i as u32;
+        if channel > HIGHEST_CHANNEL {
+            return Err(Refusal::ListedOutOfRange { place });
+        }
+        if channel == serving {
+            return Err(Refusal::ListedServing { place });
+        }
+        if list[..i].contains(&channel) {
+            return Err(Refusal::ListedAgain { place });
+        }
+    }
+    Ok(())
+}
+
 impl Watch {
     /// An idle watch.
     pub const fn fresh() -> Watch {
@@ -548,53 +569,31 @@ impl Watch {
         Ok(())
     }
 
-    /// Refusal 11, or that of the first faulty channel: 12, 14, 13.
-    fn check_list(&self, list: &[u16]) -> Result<(), Refusal> {
-        if list.len() > LIST_LIMIT {
-            return Err(Refusal::ListTooLong);
-        }
-        for (i, &channel) in list.iter().enumerate() {
-            let place = i as u16;
-            if channel > HIGHEST_CHANNEL {
-                return Err(Refusal::ListedOutOfRange { place });
-            }
-            if self.watched != 0 && channel == self.tracks[0].channel {
-                return Err(Refusal::ListedServing { place });
-            }
-            if list[..i].contains(&channel) {
-                return Err(Refusal::ListedAgain { place });
-            }
-        }
-        Ok(())
+    /// The channel with the levels that it has; without any where it is not watched.
+    #[inline(always)]
+    fn kept(&self, channel: u16) -> Track {
+        self.place(channel).map_or(Track::empty(channel), |place| self.tracks[place])
     }
 
-    /// Replaces the neighbours; a channel watched before and after keeps its levels. Refusals 9, 11, 12 to 14, 6.
-    pub fn new_list(&mut self, list: &[u16]) -> Result<(), Refusal> {
+    /// This channel serves, with these neighbours; a channel watched before and after keeps its levels, in whichever
+    /// role. Refusals 9, 2, 11, 12 to 14, 6.
+    pub fn new_beam(&mut self, serving: u16, list: &[u16]) -> Result<(), Refusal> {
         self.check()?;
-        self.check_list(list)?;
+        if serving > HIGHEST_CHANNEL {
+            return Err(Refusal::ChannelOutOfRange);
+        }
+        check_list(serving, list)?;
         if self.watched == 0 {
             return Err(Refusal::NotWatched);
         }
         let mut tracks = [Track::empty(0); ROOM];
-        tracks[0] = self.tracks[0];
+        tracks[0] = self.kept(serving);
         for (track, &channel) in tracks[1..].iter_mut().zip(list) {
-            *track = self.place(channel).map_or(Track::empty(channel), |place| self.tracks[place]);
+            *track = self.kept(channel);
         }
         self.tracks = tracks;
         self.watched = 1 + list.len();
         Ok(())
-    }
-
-    /// The neighbour becomes serving, the old serving channel takes its place. Refusals 9, 6.
-    pub fn move_to(&mut self, neighbour: u16) -> Result<(), Refusal> {
-        self.check()?;
-        match self.place(neighbour)? {
-            0 => Err(Refusal::NotWatched),
-            place => {
-                self.tracks.swap(0, place);
-                Ok(())
-            }
-        }
     }
 
     /// Adds a heard level as the newest; a missed burst changes nothing. Refusals 9, 6, 1.

@@ -75,8 +75,7 @@ impl Library for Plain {
         choose(sweep: &Sweep, margin: i32, outcomes: &[u8]) -> Choice { plain::choose(sweep, margin, outcomes) }
 
         start(watch: &mut Watch, serving: u16, depth: usize) -> () { watch.start(serving, depth) }
-        new_list(watch: &mut Watch, list: &[u16]) -> () { watch.new_list(list) }
-        move_to(watch: &mut Watch, channel: u16) -> () { watch.move_to(channel) }
+        new_beam(watch: &mut Watch, serving: u16, list: &[u16]) -> () { watch.new_beam(serving, list) }
         file(watch: &mut Watch, channel: u16, burst: Burst) -> () { watch.file(channel, burst) }
         ask(watch: &Watch, channel: u16) -> Levels { watch.ask(channel) }
         verdict(watch: &Watch, hysteresis: i32) -> Verdict { watch.verdict(hysteresis) }

@@ -219,7 +219,7 @@ impl Watched {
         let dice = scene_dice();
         let mut watch = Watch::fresh();
         let _ = watch.start(100, DEPTH);
-        let _ = watch.new_list(&[200, 300, 400, 500, 600, 700]);
+        let _ = watch.new_beam(100, &[200, 300, 400, 500, 600, 700]);
         for _ in 0..WARM_UP {
             let _ = watch.file(watched_channel(&dice), likely(&dice));
         }

@@ -241,7 +241,7 @@ fn choices_agree_with_the_second_program() {
 fn watching(serving: u16, list: &[u16], depth: usize) -> Watch {
     let mut watch = Watch::fresh();
     assert_eq!(watch.start(serving, depth), Ok(()));
-    assert_eq!(watch.new_list(list), Ok(()));
+    assert_eq!(watch.new_beam(serving, list), Ok(()));
     watch
 }
 
@@ -296,24 +296,50 @@ fn refusals_of_a_start_come_in_order() {
     }
 }
 
+/// A new beam on this watch is refused so, and leaves it as it was.
+fn beam_refused(watch: &Watch, serving: u16, list: &[u16], told: Refusal) {
+    let mut after = watch.clone();
+    assert_eq!(after.new_beam(serving, list), Err(told), "{serving} {list:?}");
+    assert_eq!(&after, watch, "{serving} {list:?}");
+}
+
 #[test]
-fn faulty_lists_are_told_with_the_first_faulty_place() {
-    use Refusal::{ListTooLong, ListedAgain, ListedOutOfRange, ListedServing, NotWatched};
-    let watch = watching(10, &[20, 30], 15);
-    for (list, of_watch, of_idle) in [
-        (&[1, 2, 3, 4, 5, 6, 1_088][..], ListTooLong, ListTooLong),
-        (&[20, 1_088, 10], ListedOutOfRange { place: 1 }, ListedOutOfRange { place: 1 }),
-        (&[20, 10, 1_088], ListedServing { place: 1 }, ListedOutOfRange { place: 2 }),
-        (&[10, 20, 10], ListedServing { place: 0 }, ListedAgain { place: 2 }),
-        (&[20, 30, 20, 10], ListedAgain { place: 2 }, ListedAgain { place: 2 }),
-        (&[1, 2, 3, 4, 5, 10], ListedServing { place: 5 }, NotWatched),
-    ] {
-        for (before, told) in [(&watch, of_watch), (&Watch::fresh(), of_idle)] {
-            let mut after = before.clone();
-            assert_eq!(after.new_list(list), Err(told), "{list:?}");
-            assert_eq!(&after, before, "{list:?}");
+fn faulty_beams_are_told_with_the_first_faulty_place_of_their_list() {
+    use Refusal::{ChannelOutOfRange, ListTooLong, ListedAgain, ListedOutOfRange, ListedServing};
+    // Channel 10 serves, is a neighbour, is a stranger; nobody serves.
+    for watch in [watching(10, &[20, 30], 15), watching(20, &[10], 15), watching(40, &[20], 15), Watch::fresh()] {
+        for (list, told) in [
+            (&[1, 2, 3, 4, 5, 6, 1_088][..], ListTooLong),
+            (&[20, 1_088, 10], ListedOutOfRange { place: 1 }),
+            (&[20, 10, 1_088], ListedServing { place: 1 }),
+            (&[10, 20, 10], ListedServing { place: 0 }),
+            (&[20, 30, 20, 10], ListedAgain { place: 2 }),
+            (&[1, 2, 3, 4, 5, 10], ListedServing { place: 5 }),
+        ] {
+            beam_refused(&watch, 10, list, told);
+            beam_refused(&watch, 1_088, list, ChannelOutOfRange);
         }
     }
+    beam_refused(&Watch::fresh(), 10, &[1, 2, 3, 4, 5, 0], Refusal::NotWatched);
+}
+
+#[test]
+fn levels_stay_with_a_channel_in_whichever_role() {
+    let mut watch = watching(10, &[20, 30], 15);
+    watch.file(10, heard(-10_000)).unwrap();
+    watch.file(20, heard(-9_000)).unwrap();
+    watch.file(20, heard(-9_000)).unwrap();
+    let levels = |count, mean| Ok(Levels { count, mean });
+    // A neighbour serves, then a stranger, then the first again.
+    for (serving, list) in [(20, &[30, 10][..]), (40, &[10, 20]), (10, &[20]), (20, &[10])] {
+        assert_eq!(watch.new_beam(serving, list), Ok(()));
+        assert_eq!((watch.tracks[0].channel, watch.watched, watch.depth), (serving, 1 + list.len(), 15));
+        assert_eq!((watch.ask(10), watch.ask(20)), (levels(1, -10_000), levels(2, -9_000)));
+    }
+    // Dropped, it has none when it comes back.
+    assert_eq!(watch.new_beam(10, &[]), Ok(()));
+    assert_eq!(watch.new_beam(20, &[10]), Ok(()));
+    assert_eq!((watch.ask(10), watch.ask(20)), (levels(1, -10_000), levels(0, 0)));
 }
 
 #[test]
@@ -326,7 +352,7 @@ fn equal_sums_go_to_the_lowest_channel() {
             }
         }
         assert_eq!(watch.verdict(0), Ok(Verdict::MoveTo(30)));
-        watch.move_to(40).unwrap();
+        watch.new_beam(40, &[10, 20, 30]).unwrap();
         assert_eq!(watch.verdict(0), Ok(Verdict::Stay));
     }
 }
@@ -372,8 +398,8 @@ fn damaged_watches_are_refused_and_stay() {
                 let nine = Err(Refusal::RecordNotWellFormed);
                 assert_eq!(damaged.start(1_088, 32), nine);
                 assert_eq!(damaged.start(1, 15), nine);
-                assert_eq!(damaged.new_list(&[1_088]), nine);
-                assert_eq!(damaged.move_to(1_088), nine);
+                assert_eq!(damaged.new_beam(1_088, &[1_088]), nine);
+                assert_eq!(damaged.new_beam(1, &[]), nine);
                 assert_eq!(damaged.file(1_088, heard(1)), nine);
                 assert_eq!(number(damaged.ask(1_088)), 9);
                 assert_eq!(number(damaged.verdict(-1)), 9);
@@ -389,15 +415,14 @@ fn damaged_watches_are_refused_and_stay() {
 fn second_answer(second: &mut second::watch::Watch, call: &WatchCall) -> u64 {
     use second::watch::Verdict::{Move, Stay, Wait};
     fn by_number<T>(answer: Result<T, second::refusal::Refusal>) -> Answer<T> {
-        answer.map_err(|refusal| Refused::new(refusal.number().into(), refusal.place().map(|place| place as u16)))
+        answer.map_err(|refusal| Refused::new(refusal.number().into(), refusal.place().map(|place| place as u32)))
     }
     match *call {
         // A depth is a byte there. 255 stands for those beyond a byte, which are out of range too.
         WatchCall::Start(serving, depth) => {
             told(by_number(second.start(serving, u8::try_from(depth).unwrap_or(u8::MAX))))
         }
-        WatchCall::NewList(ref list) => told(by_number(second.new_list(list))),
-        WatchCall::MoveTo(channel) => told(by_number(second.move_to(channel))),
+        WatchCall::NewBeam(serving, ref list) => told(by_number(second.new_beam(serving, list))),
         WatchCall::File(channel, burst) => told(by_number(second.file(channel, second_burst(burst)))),
         WatchCall::Ask(channel) => {
             told(by_number(second.ask(channel)).map(|(count, mean)| Levels { count, mean: mean as i32 }))
@@ -418,7 +443,7 @@ fn watches_agree_with_the_second_program() {
         let mut plain = Watch::fresh();
         let mut second = second::watch::Watch::default();
         for _ in 0..5_000 {
-            let call = made_up::watch_call(&dice);
+            let call = made_up::watch_call(&dice, &plain);
             let before = plain.clone();
             let answer = call.make::<Plain>(&mut plain);
             assert_eq!(answer, second_answer(&mut second, &call), "{call:?} on {before:?}");
@@ -431,29 +456,29 @@ fn watches_agree_with_the_second_program() {
 }
 
 #[test]
-fn lists_agree_with_the_second_program() {
+fn beams_agree_with_the_second_program() {
     let lists = made_up::every_list(&Dice::new(9));
     let mut refused = BTreeSet::new();
-    for calls in made_up::before_lists() {
+    for (calls, serving) in made_up::before_beams() {
         let (mut plain, mut second) = (Watch::fresh(), second::watch::Watch::default());
         for call in calls {
             assert_eq!(call.make::<Plain>(&mut plain), second_answer(&mut second, &call), "{call:?}");
         }
         for list in &lists {
             let (mut plain_after, mut second_after) = (plain.clone(), second.clone());
-            let call = WatchCall::NewList(list.clone());
+            let call = WatchCall::NewBeam(serving, list.clone());
             let answer = call.make::<Plain>(&mut plain_after);
-            assert_eq!(answer, second_answer(&mut second_after, &call), "{list:?} on {plain:?}");
+            assert_eq!(answer, second_answer(&mut second_after, &call), "{call:?} on {plain:?}");
             refused.extend(refusal_of(answer));
-            assert!(refusal_of(answer).is_none() || plain_after == plain, "{list:?} on {plain:?}");
+            assert!(refusal_of(answer).is_none() || plain_after == plain, "{call:?} on {plain:?}");
             assert!(watch_is_well_formed(&plain_after));
             for ask in [0, 3, 5, 7, 9, 1_087].map(WatchCall::Ask) {
-                assert_eq!(ask.make::<Plain>(&mut plain_after), second_answer(&mut second_after, &ask), "{list:?}");
+                assert_eq!(ask.make::<Plain>(&mut plain_after), second_answer(&mut second_after, &ask), "{call:?}");
             }
         }
     }
     let mut every = list_refusals();
-    every.insert(Refused::new(Refusal::NotWatched.number(), None));
+    every.extend([Refusal::NotWatched, Refusal::ChannelOutOfRange].map(|refusal| Refused::new(refusal.number(), None)));
     assert_eq!(refused, every);
 }
 
@@ -470,7 +495,7 @@ fn watches_of_every_depth_agree_with_the_second_program() {
             answer
         };
         both(WatchCall::Start(0, depth));
-        both(WatchCall::NewList(vec![6, 5, 4, 3, 2, 1]));
+        both(WatchCall::NewBeam(0, vec![6, 5, 4, 3, 2, 1]));
         // How many wait, stay and move.
         let mut verdicts = [0; 3];
         for round in 0..3_000 {
@@ -481,7 +506,7 @@ fn watches_of_every_depth_agree_with_the_second_program() {
             let kind = [Verdict::Wait.number(), Verdict::Stay.number()].iter().position(|&told| told == verdict);
             verdicts[kind.unwrap_or(2)] += 1;
             if round % 100 == 99 {
-                both(WatchCall::MoveTo(channel));
+                both(WatchCall::NewBeam(channel, (0..7).filter(|&other| other != channel).collect()));
             }
         }
         assert!(!verdicts.contains(&0), "{verdicts:?} at depth {depth}");
@@ -575,7 +600,7 @@ fn damaged_power_records_are_refused_and_stay() {
 
 #[test]
 fn refusals_are_told_by_numbers_that_no_value_has() {
-    for refusal in list_refusals().into_iter().chain([Refused::new(1, None), Refused::new(12, Some(u16::MAX))]) {
+    for refusal in list_refusals().into_iter().chain([Refused::new(1, None), Refused::new(12, Some(u32::MAX))]) {
         assert_eq!(refusal_of(told::<()>(Err(refusal))), Some(refusal));
     }
     for level in [-15_000, -1, 0] {

@@ -94,8 +94,7 @@ impl Session {
     fn answer_watch(&mut self, call: &WatchCall) -> Result<String, Refusal> {
         match call {
             WatchCall::Start(serving, depth) => self.watch.start(*serving, *depth).map(|()| accepted()),
-            WatchCall::List(list) => self.watch.new_list(list).map(|()| accepted()),
-            WatchCall::Move(neighbour) => self.watch.move_to(*neighbour).map(|()| accepted()),
+            WatchCall::Beam(serving, list) => self.watch.new_beam(*serving, list).map(|()| accepted()),
             WatchCall::File(channel, burst) => self.watch.file(*channel, *burst).map(|()| accepted()),
             WatchCall::Ask(channel) => {
                 let (count, mean) = self.watch.ask(*channel)?;
@@ -227,7 +226,7 @@ mod tests {
         let mut session = Session::fresh();
         let mut say = |line: &str| session.answer_line(1, line.as_bytes()).unwrap();
         assert_eq!(say("start 10"), "accepted");
-        assert_eq!(say("list 20"), "accepted");
+        assert_eq!(say("beam 10 20"), "accepted");
         assert_eq!(say("ask 20"), "count 0 mean 0");
         assert_eq!(say("file 20 heard -0.01 0"), "accepted");
         assert_eq!(say("file 20 heard -0.02 0"), "accepted");
@@ -241,7 +240,7 @@ mod tests {
         say("file 20 heard -97 0");
         assert_eq!(say("verdict 300"), "stay");
         assert_eq!(say("verdict 299"), "move 20");
-        assert_eq!(say("move 20"), "accepted");
+        assert_eq!(say("beam 20 10"), "accepted");
         assert_eq!(say("verdict 0"), "stay");
     }
 
@@ -249,7 +248,7 @@ mod tests {
     fn a_start_at_another_depth_as_a_session() {
         check(&[
             ("start 10 5", "accepted"),
-            ("list 20", "accepted"),
+            ("beam 10 20", "accepted"),
             ("file 10 heard -100 0", "accepted"),
             ("file 10 heard -100 0", "accepted"),
             ("file 10 heard -100 0", "accepted"),
@@ -276,7 +275,7 @@ mod tests {
 
     #[test]
     fn depth_15_by_name_answers_as_a_start_without_a_depth() {
-        let rest = "\nlist 20\n".to_string() + &"file 10 heard -100 0\nask 10\nverdict 0\n".repeat(17);
+        let rest = "\nbeam 10 20\n".to_string() + &"file 10 heard -100 0\nask 10\nverdict 0\n".repeat(17);
         let (named, unnamed) = (format!("start 10 15{rest}"), format!("start 10{rest}"));
         assert_eq!(answers(named.as_bytes()), answers(unnamed.as_bytes()));
         assert_eq!(answers(named.as_bytes()).lines().filter(|answer| *answer == "wait").count(), 14);
@@ -313,13 +312,15 @@ mod tests {
             ("ask 0", "refused 6"),
             ("file 0 heard nan nan", "refused 6"),
             ("file 0 missed", "refused 6"),
-            ("move 0", "refused 6"),
-            ("list", "refused 6"),
-            ("list 0", "refused 6"),
-            ("list 0 0", "refused 13 at 1"),
-            ("list 0 1088", "refused 12 at 1"),
-            ("list 1 2 3 4 5 6", "refused 6"),
-            ("list 1 2 3 4 5 6 7", "refused 11"),
+            ("beam 0", "refused 6"),
+            ("beam 0 1", "refused 6"),
+            ("beam 0 0", "refused 14 at 0"),
+            ("beam 1 0 0", "refused 13 at 1"),
+            ("beam 1 0 1088", "refused 12 at 1"),
+            ("beam 0 1 2 3 4 5 6", "refused 6"),
+            ("beam 0 1 2 3 4 5 6 7", "refused 11"),
+            ("beam 1088", "refused 2"),
+            ("beam 1088 0 0", "refused 2"),
             ("verdict 0", "refused 6"),
             ("verdict -1", "refused 7"),
             ("start 1088", "refused 2"),
@@ -334,24 +335,50 @@ mod tests {
     fn faulty_lists_as_a_session() {
         check(&[
             ("start 10", "accepted"),
-            ("list 20 30", "accepted"),
+            ("beam 10 20 30", "accepted"),
             ("file 20 heard -90 0", "accepted"),
-            ("list 1 2 3 4 5 6 7", "refused 11"),
-            ("list 10 1088 3 3 5 6 7 8", "refused 11"),
-            ("list 1088", "refused 12 at 0"),
-            ("list 1 2 3 4 5 65535", "refused 12 at 5"),
-            ("list 20 30 20", "refused 13 at 2"),
-            ("list 0000000020 20", "refused 13 at 1"),
-            ("list 20 10 30", "refused 14 at 1"),
-            ("list 20 10 1088", "refused 14 at 1"),
-            ("list 20 1088 10", "refused 12 at 1"),
-            ("list 1088 1 2 3 4 5 6 7 8", "error line 13"),
-            ("list 1088 65536", "error line 14"),
+            ("beam 10 1 2 3 4 5 6 7", "refused 11"),
+            ("beam 10 10 1088 3 3 5 6 7 8", "refused 11"),
+            ("beam 10 1088", "refused 12 at 0"),
+            ("beam 10 1 2 3 4 5 65535", "refused 12 at 5"),
+            ("beam 10 20 30 20", "refused 13 at 2"),
+            ("beam 10 0000000020 20", "refused 13 at 1"),
+            ("beam 10 20 10 30", "refused 14 at 1"),
+            ("beam 10 20 10 1088", "refused 14 at 1"),
+            ("beam 10 20 1088 10", "refused 12 at 1"),
+            ("beam 10 1088 1 2 3 4 5 6 7 8", "error line 13"),
+            ("beam 10 1088 65536", "error line 14"),
             ("ask 20", "count 1 mean -9000"),
             ("ask 30", "count 0 mean 0"),
             ("ask 1", "refused 6"),
-            ("list 30 20 1087", "accepted"),
+            ("beam 10 30 20 1087", "accepted"),
             ("ask 20", "count 1 mean -9000"),
+        ]);
+    }
+
+    #[test]
+    fn new_beams_as_a_session() {
+        check(&[
+            ("start 10 5", "accepted"),
+            ("file 10 heard -90 0", "accepted"),
+            ("beam 20 10", "accepted"),
+            ("ask 10", "count 1 mean -9000"),
+            ("ask 20", "count 0 mean 0"),
+            ("file 20 heard -80 0", "accepted"),
+            ("beam 20 10 20", "refused 14 at 1"),
+            ("beam 1088 10 20 20", "refused 2"),
+            ("beam 10 20", "accepted"),
+            ("ask 10", "count 1 mean -9000"),
+            ("beam 30 20", "accepted"),
+            ("ask 10", "refused 6"),
+            ("ask 20", "count 1 mean -8000"),
+            ("list 10", "error line 14"),
+            ("move 20", "error line 15"),
+            ("beam", "error line 16"),
+            ("verdict 0", "wait"),
+            ("beam 10 20 30", "accepted"),
+            ("ask 10", "count 0 mean 0"),
+            ("ask 20", "count 1 mean -8000"),
         ]);
     }
 

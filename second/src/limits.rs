@@ -57,5 +57,5 @@ pub const LONGEST_LINE: usize = 200;
 pub const MOST_WHOLE_DIGITS: usize = 10;
 /// How many digits a decimal float of a session has at most, in all.
 pub const MOST_FLOAT_DIGITS: usize = 7;
-/// How many channels a `list` line can name; more is an error line.
+/// How many channels a `beam` line can name after the serving one; more is an error line.
 pub const MOST_LIST_WORDS: usize = 8;

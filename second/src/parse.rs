@@ -36,12 +36,11 @@ pub enum SweepCall {
     Choose(i32),
 }
 
-/// The calls on the watch; a start has the serving channel and the depth.
+/// The calls on the watch; a start has the serving channel and the depth, a new beam the serving channel and its list.
 #[derive(Clone, Debug, PartialEq, Eq)]
 pub enum WatchCall {
     Start(u16, u8),
-    List(Vec<u16>),
-    Move(u16),
+    Beam(u16, Vec<u16>),
     File(u16, Burst),
     Ask(u16),
     Verdict(i32),
@@ -70,7 +69,7 @@ pub fn call(line: &[u8]) -> Option<Call> {
     match *words.first()? {
         b"level" | b"quality" | b"show" => reading_call(&words).map(Call::Reading),
         b"sweep" | b"outcome" | b"choose" => sweep_call(&words).map(Call::Sweep),
-        b"start" | b"list" | b"move" | b"file" | b"ask" | b"verdict" => watch_call(&words).map(Call::Watch),
+        b"start" | b"beam" | b"file" | b"ask" | b"verdict" => watch_call(&words).map(Call::Watch),
         b"params" | b"power" | b"step" => power_call(&words).map(Call::Power),
         _ => None,
     }
@@ -105,16 +104,15 @@ fn sweep_call(words: &[&[u8]]) -> Option<SweepCall> {
     }
 }
 
-/// `start`, `list`, `move`, `file`, `ask` and `verdict`.
+/// `start`, `beam`, `file`, `ask` and `verdict`.
 fn watch_call(words: &[&[u8]]) -> Option<WatchCall> {
     match *words {
         [b"start", channel] => Some(WatchCall::Start(ch(channel)?, USUAL_DEPTH)),
         [b"start", channel, depth] => Some(WatchCall::Start(ch(channel)?, byte(depth)?)),
-        [b"list", ref channels @ ..] if channels.len() <= MOST_LIST_WORDS => {
+        [b"beam", serving, ref channels @ ..] if channels.len() <= MOST_LIST_WORDS => {
             let list: Option<Vec<u16>> = channels.iter().map(|channel| ch(channel)).collect();
-            Some(WatchCall::List(list?))
+            Some(WatchCall::Beam(ch(serving)?, list?))
         }
-        [b"move", channel] => Some(WatchCall::Move(ch(channel)?)),
         [b"file", channel, ref result @ ..] => Some(WatchCall::File(ch(channel)?, burst(result)?)),
         [b"ask", channel] => Some(WatchCall::Ask(ch(channel)?)),
         [b"verdict", hysteresis] => Some(WatchCall::Verdict(int(hysteresis)?)),
@@ -252,7 +250,7 @@ mod tests {
         for line in [" sweep next", "sweep next ", "sweep  next", "sweep\tnext", " ", "  "] {
             assert!(is_error(line), "{line:?}");
         }
-        for line in ["list ", " list", "list  1", "list 1 ", "# x".trim_start_matches('#')] {
+        for line in ["beam ", " beam 1", "beam  1", "beam 1 ", "beam 1  2", "# x".trim_start_matches('#')] {
             assert!(is_error(line), "{line:?}");
         }
     }
@@ -359,9 +357,8 @@ mod tests {
             ("choose -1", Call::Sweep(S::Choose(-1))),
             ("start 65535", Call::Watch(W::Start(65_535, 15))),
             ("start 65535 31", Call::Watch(W::Start(65_535, 31))),
-            ("list", Call::Watch(W::List(vec![]))),
-            ("list 1 1 2 3 4 5 6 7", Call::Watch(W::List(vec![1, 1, 2, 3, 4, 5, 6, 7]))),
-            ("move 3", Call::Watch(W::Move(3))),
+            ("beam 9", Call::Watch(W::Beam(9, vec![]))),
+            ("beam 65535 9 1 1 3 4 5 6 7", Call::Watch(W::Beam(65_535, vec![9, 1, 1, 3, 4, 5, 6, 7]))),
             ("file 3 missed", Call::Watch(W::File(3, Burst::Missed))),
             ("ask 0", Call::Watch(W::Ask(0))),
             ("verdict 6001", Call::Watch(W::Verdict(6_001))),
@@ -398,10 +395,31 @@ mod tests {
             "level", "level 1 2", "show 5", "show level", "sweep", "sweep rest", "sweep file", "sweep file 5",
             "sweep file 5 heard", "sweep file 5 heard 1", "sweep file 5 heard 1 2 3", "sweep file 5 missed 1",
             "sweep next 5", "outcome 5", "outcome 5 1 1", "outcome 1088 0", "outcome 5 256", "choose", "start",
-            "list 1 2 3 4 5 6 7 8 9", "list 65536", "move", "move 1 2", "file 5", "ask", "verdict", "power",
-            "power stop", "power start 1", "params 1 2 3 4 5 6", "params 1 2 3 4 5 6 7 8", "step", "step failed",
-            "step 1 2", "step failed 1 2", "step 1 failed 2", "step 256 0 0", "Level 1", "levels 1", "x", "-",
+            "file 5", "ask", "verdict", "power", "power stop", "power start 1", "params 1 2 3 4 5 6",
+            "params 1 2 3 4 5 6 7 8", "step", "step failed", "step 1 2", "step failed 1 2", "step 1 failed 2",
+            "step 256 0 0", "Level 1", "levels 1", "x", "-",
         ] {
+            assert!(is_error(line), "{line}");
+        }
+    }
+
+    #[test]
+    fn a_beam_has_a_serving_channel_and_up_to_eight_others() {
+        for line in ["beam 1", "beam 1 2", "beam 1 2 3 4 5 6 7 8 9", "beam 7 7 7 7 7 7 7 7 7", "beam -0 00 000065535"] {
+            assert!(!is_error(line), "{line}");
+        }
+        for line in [
+            "beam", "beam 1 2 3 4 5 6 7 8 9 10", "beam 7 7 7 7 7 7 7 7 7 7", "beam 65536", "beam 1 65536", "beam -1",
+            "beam x 1", "beam 1 x", "beam 1 2 3 4 5 6 7 8 x", "beam 1.0", "beam nan", "beam 00000000001", "Beam 1",
+            "beams 1", "beam1", "new beam 1",
+        ] {
+            assert!(is_error(line), "{line}");
+        }
+    }
+
+    #[test]
+    fn list_and_move_are_no_calls_any_more() {
+        for line in ["list", "list 1", "list 1 2 3 4 5 6", "list 1 2 3 4 5 6 7 8 9", "move", "move 1", "move 1 2"] {
             assert!(is_error(line), "{line}");
         }
     }

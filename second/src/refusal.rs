@@ -6,13 +6,13 @@
 pub enum Refusal {
     /// A level or quality outside its range.
     Reading,
-    /// A swept channel outside 2 to 1,086; a start channel above 1,087.
+    /// A swept channel outside 2 to 1,086; the channel of a start, or the serving one of a new beam, above 1,087.
     Channel,
     /// A channel already visited in this sweep.
     Visited,
     /// A choice over an unfinished sweep.
     Unfinished,
-    /// A channel not watched or not in the list; new list or verdict on an idle watch.
+    /// A filed or asked channel not watched; a new beam or a verdict on an idle watch.
     NotWatched,
     /// A margin, hysteresis, depth, power parameter or code out of range.
     Parameter,
@@ -24,7 +24,7 @@ pub enum Refusal {
     ListRange(usize),
     /// A list whose channel at this place stands at an earlier one too.
     ListRepeat(usize),
-    /// A list with the serving channel at this place.
+    /// A list with the serving channel that it comes with at this place.
     ListServing(usize),
 }
 

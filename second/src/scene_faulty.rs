@@ -5,11 +5,11 @@ use crate::parse::call;
 use crate::script::Script;
 
 /// Sound lines to be spoiled.
-const SOUND: [&str; 27] = [
+const SOUND: [&str; 26] = [
     "level -90.13", "quality 8.5", "level 0xc2b40000", "quality nan", "show level -9000", "show quality 850",
     "sweep fresh", "sweep file 100 heard -90 8.5", "sweep file 101 missed", "sweep rest missed", "sweep next",
-    "sweep counts", "outcome 100 2", "choose 300", "start 100", "start 100 9", "list 1 2 3 4 5 6", "list 7", "list",
-    "move 2", "file 2 heard -97.5 3", "file 2 missed", "ask 2", "verdict 300", "params 85 30 0 60 10 10 3",
+    "sweep counts", "outcome 100 2", "choose 300", "start 100", "start 100 9", "beam 100 1 2 3 4 5 6", "beam 100",
+    "beam 2 100 1", "file 2 heard -97.5 3", "file 2 missed", "ask 2", "verdict 300", "params 85 30 0 60 10 10 3",
     "step 20 30 850", "step failed 850",
 ];
 
@@ -23,21 +23,24 @@ const BAD_NUMBERS: [&str; 48] = [
 ];
 
 /// Lines with a wrong number of words, or words that are none of the format's.
-const WRONG_LINES: [&str; 55] = [
+const WRONG_LINES: [&str; 72] = [
     "level", "level 1 2", "quality", "show", "show level", "show 5", "show level 5 5", "show power 5", "sweep",
     "sweep rest", "sweep rest missed now", "sweep fresh 1", "sweep file", "sweep file 5", "sweep file 5 heard",
     "sweep file 5 heard 1", "sweep file 5 heard 1 2 3", "sweep file 5 missed 1", "sweep next 5", "sweep done",
     "outcome", "outcome 5", "outcome 5 1 1", "outcome 1088 0", "outcome 65535 1", "outcome 5 256", "choose",
-    "choose 1 2", "choose 1.5", "start", "start 1 2 3", "start 1 256", "start nan", "list 1 2 3 4 5 6 7 8 9",
-    "list 1 2 3 4 5 6 7 8 9 10 11 12", "list 1 2 x", "list 65536", "list 7 7 7 7 7 7 7 7 7", "list 1088 65536",
-    "list 1088 x", "list 1 2 3 4 5 6 7 -1", "move", "move 1 2", "file 5", "file 5 heard -90",
-    "file 5 herd -90 5", "ask", "ask 1 2", "verdict", "verdict 0x10", "params 1 2 3 4 5 6", "params 1 2 3 4 5 6 7 8",
-    "power", "power stop", "step 1 2",
+    "choose 1 2", "choose 1.5", "start", "start 1 2 3", "start 1 256", "start nan", "beam", "beam 0 1 2 3 4 5 6 7 8 9",
+    "beam 1 2 3 4 5 6 7 8 9 10 11 12", "beam 1 2 x", "beam x 1 2", "beam 65536", "beam 65536 1", "beam 1 65536",
+    "beam 7 7 7 7 7 7 7 7 7 7", "beam 1088 65536", "beam 1088 x", "beam 0 1 2 3 4 5 6 7 -1", "beam -1",
+    "beam 1088 1 2 3 4 5 6 7 8 9", "beam list 1 2", "beam 1 list 2", "list", "list 1", "list 1 2 3 4 5 6", "list 1088",
+    "list 7 7", "list 1 2 3 4 5 6 7 8 9", "move", "move 1", "move 2", "move 1 2", "move 65535", "file 5",
+    "file 5 heard -90", "file 5 herd -90 5", "ask", "ask 1 2", "verdict", "verdict 0x10", "params 1 2 3 4 5 6",
+    "params 1 2 3 4 5 6 7 8", "power", "power stop", "step 1 2",
 ];
 
 /// More of them: letters in the other case, near misses, and lines of one byte.
-const STRANGE_LINES: [&str; 20] = [
-    "Level -90", "LEVEL -90", "levels -90", "leve -90", "Sweep next", "sweep Next", "START 5", "stop", "unknown", "x",
+const STRANGE_LINES: [&str; 24] = [
+    "Level -90", "LEVEL -90", "levels -90", "leve -90", "Sweep next", "sweep Next", "START 5", "Beam 5", "BEAM 5 6",
+    "beams 5", "beam5", "stop", "unknown", "x",
     " ", "  ", " #", "\t#", "\r", "step", "step failed", "step failed 1 2", "power start 1", "accepted",
 ];
 
@@ -95,12 +98,12 @@ fn long_line(dice: &mut Dice) -> Vec<u8> {
     let length = dice.pick(&[199, 200, 201, 202, 400, 5_000]);
     let (begin, fill) = dice.pick(&[
         ("level ", b'0'),
-        ("list", b' '),
+        ("beam 1", b' '),
         ("sweep next ", b' '),
         ("ask 0", b'0'),
         ("x", b'x'),
         ("level 0x", b'0'),
-        ("list 1 ", b'1'),
+        ("beam 1 ", b'1'),
         (" #", b'#'),
     ]);
     let mut line = begin.as_bytes().to_vec();
@@ -119,13 +122,15 @@ fn any_bytes(dice: &mut Dice) -> Vec<u8> {
 }
 
 /// Sound lines whose numbers are dressed as far as the format allows; none of them starts a watch.
-const EDGE_LINES: [&str; 32] = [
-    "ask -0", "ask 0000000000", "ask 0000065535", "ask 65535", "move 0000001087", "verdict -0", "verdict 0000006000",
+const EDGE_LINES: [&str; 36] = [
+    "ask -0", "ask 0000000000", "ask 0000065535", "ask 65535", "verdict -0", "verdict 0000006000",
     "verdict -2147483648", "verdict 2147483647", "verdict -0000000001", "choose -0", "level -0000.00", "level 0000000",
     "level -000090", "quality 0.00001", "quality 0.000001", "quality 9999999", "level -99.9999", "level -150.000",
     "level -150.001", "quality 40.0001", "quality 40.00000", "show level -0", "outcome 0001087 0000000000",
-    "start 5 -0", "start -0 0000000032", "start 0000001088 0000000031", "list 0000001088", "list -0 00",
-    "list 7 0000000007", "list 0000000001 2 3 4 5 0000065535", "list -0 1 2 3 4 5 0000001088",
+    "start 5 -0", "start -0 0000000032", "start 0000001088 0000000031", "beam 0000001088", "beam 0000065535 -0",
+    "beam -0 00", "beam 0000000007 7", "beam 9 7 0000000007", "beam 0000001087 -0 0000000001",
+    "beam 9 0000000001 2 3 4 5 0000065535", "beam 9 -0 1 2 3 4 5 0000001088", "beam 1 2 3 4 5 6 7 8 0000000009",
+    "beam 0 0 0 0 0 0 0 0 0",
 ];
 
 /// A run of faulty lines, comments, empty lines, and sound lines at the edge of the format.

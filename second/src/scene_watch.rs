@@ -1,14 +1,16 @@
-//! Scenes of the watch: full means with sums at the turn of a verdict, lists in other orders, dropped channels, moves.
+//! Scenes of the watch: full means with sums at the turn of a verdict, calls in any order, and a watch that is idle.
 
-use crate::limits::{DEPTH_RANGE, LEVEL_RANGE, MOST_NEIGHBOURS, USUAL_DEPTH};
-use crate::scene_list::{filled_up, idle_lists, neighbours, refused_list, reordered, say_list, serving};
+use crate::limits::LEVEL_RANGE;
+use crate::scene_beam::{
+    follow_verdict, loose_beam, neighbour_dropped, neighbour_serves, reordered, strange_in_its_place, stranger_serves,
+    there_and_back,
+};
+use crate::scene_refused::{idle_beams, refused_beam};
 use crate::script::Script;
-use crate::words::whole_word;
-
-/// The ends of the range of depths, and the depth of a start without one, to aim with.
-const LOWEST: i32 = *DEPTH_RANGE.start() as i32;
-const HIGHEST: i32 = *DEPTH_RANGE.end() as i32;
-const USUAL: i32 = USUAL_DEPTH as i32;
+use crate::watch_lines::{
+    ask_all, bad_depth, eight_channels, neighbours, refused_start, say_beam, say_former_call, say_level, say_verdict,
+    serving, sound_depth, start_line, watched,
+};
 
 /// What a planned watch aims at.
 struct Plan {
@@ -24,17 +26,12 @@ struct Plan {
 /// A watch planned so that its verdict turns at one hysteresis; levels are filed in any order, with turns between.
 pub fn planned_watch(script: &mut Script) {
     let mut plan = plan(script);
-    let start = start_line(script, plan.queues[0].0, plan.depth);
-    script.add(start.into_bytes());
-    say_list(script, &plan.list);
+    begin(script, &plan);
     while !plan.queues.is_empty() {
         let place = script.dice.below(plan.queues.len());
         let channel = plan.queues[place].0;
         match plan.queues[place].1.pop() {
-            Some(level) => {
-                let burst = script.heard(level);
-                script.say(&format!("file {channel} {burst}"));
-            }
+            Some(level) => say_level(script, channel, level),
             None => {
                 plan.queues.swap_remove(place);
             }
@@ -46,45 +43,17 @@ pub fn planned_watch(script: &mut Script) {
     finale(script, &plan);
 }
 
-/// A depth in range: mostly an end of it, one beside an end, or the usual one.
-fn sound_depth(script: &mut Script) -> i32 {
-    match script.dice.below(8) {
-        0 | 1 => LOWEST,
-        2 => LOWEST + 1,
-        3 => HIGHEST - 1,
-        4 => HIGHEST,
-        5 | 6 => USUAL,
-        _ => script.dice.between(LOWEST, HIGHEST),
+/// Starts the planned watch, at times on a strange channel, which its first beam drops; then that beam.
+fn begin(script: &mut Script, plan: &Plan) {
+    let planned = plan.queues[0].0;
+    let first = script.dice.pick(&[planned, planned, plan.strange]);
+    let start = start_line(script, first, plan.depth);
+    script.add(start.into_bytes());
+    if first != planned {
+        let level = script.dice.within(&LEVEL_RANGE);
+        say_level(script, first, level);
     }
-}
-
-/// A depth just or far out of range.
-fn bad_depth(script: &mut Script) -> i32 {
-    script.dice.pick(&[LOWEST - 1, LOWEST - 1, HIGHEST + 1, HIGHEST + 1, 0, 255])
-}
-
-/// A start at this depth; the usual one often goes without saying.
-fn start_line(script: &mut Script, channel: i32, depth: i32) -> String {
-    if depth == USUAL && !script.dice.one_in(3) {
-        return format!("start {channel}");
-    }
-    let word = whole_word(&mut script.dice, depth);
-    format!("start {channel} {word}")
-}
-
-/// A start that is refused: a depth out of range, a channel above 1,087, or both.
-fn refused_start(script: &mut Script, strange: i32) {
-    let here = script.dice.pick(&[serving(script), strange, 0, 1_087]);
-    let above = script.dice.pick(&[1_088, 1_088, 1_089, 65_535]);
-    let (sound, bad) = (sound_depth(script), bad_depth(script));
-    let (channel, depth) = script.dice.pick(&[(here, bad), (here, bad), (above, bad), (above, sound)]);
-    let line = start_line(script, channel, depth);
-    script.say(&line);
-}
-
-/// Eight different channels, often with the ends among them.
-fn eight_channels(script: &mut Script) -> Vec<i32> {
-    filled_up(script, vec![], 8)
+    say_beam(script, planned, &plan.list);
 }
 
 /// A serving level, a hysteresis, and neighbours whose sums lie at or about the turn.
@@ -146,27 +115,21 @@ fn spread(script: &mut Script, depth: i32, each: i32, beyond: i32) -> Vec<i32> {
 fn harmless_turn(script: &mut Script, plan: &Plan) {
     match script.dice.below(15) {
         0..=3 => reordered(script),
-        4 | 5 => refused_list(script),
-        6 => refused_move(script, plan.strange),
+        4 | 5 => refused_beam(script),
+        6 => say_former_call(script),
         7 => file_wrongly(script, plan.strange),
         8 => {
             let channel = script.dice.pick(&[serving(script), plan.list[0]]);
             script.say(&format!("file {channel} missed"));
         }
         9 => ask_all(script, plan.strange),
-        10 => move_there_and_back(script),
+        10 => there_and_back(script),
         11 | 12 => refused_start(script, plan.strange),
         _ => {
             let near = script.dice.between(-1, 1);
             say_verdict(script, plan.hysteresis + near);
         }
     }
-}
-
-/// A move to a channel that is not in the list.
-fn refused_move(script: &mut Script, strange: i32) {
-    let channel = script.dice.pick(&[serving(script), strange, 1_088, 65_535]);
-    script.say(&format!("move {channel}"));
 }
 
 /// Anything under a channel that is not watched, then a bad float under the serving one.
@@ -180,51 +143,23 @@ fn file_wrongly(script: &mut Script, strange: i32) {
     script.say(&format!("file {watched} {burst}"));
 }
 
-/// A move to a neighbour and back to the channel that served before.
-fn move_there_and_back(script: &mut Script) {
-    let list = neighbours(script);
-    if !list.is_empty() {
-        let (there, back) = (script.dice.pick(&list), serving(script));
-        script.say(&format!("move {there}"));
-        if script.dice.one_in(2) {
-            reordered(script);
-        }
-        script.say(&format!("move {back}"));
-    }
-}
-
-/// Asks about every watched channel and a strange one.
-fn ask_all(script: &mut Script, strange: i32) {
-    let mut channels = neighbours(script);
-    channels.extend([serving(script), strange]);
-    script.dice.shuffle(&mut channels);
-    for channel in channels {
-        let word = whole_word(&mut script.dice, channel);
-        script.say(&format!("ask {word}"));
-    }
-}
-
-/// A verdict at this hysteresis.
-fn say_verdict(script: &mut Script, hysteresis: i32) -> String {
-    let word = whole_word(&mut script.dice, hysteresis);
-    script.say(&format!("verdict {word}"))
-}
-
-/// With all levels filed: verdicts around the turn, then lists, moves and starts, each with verdicts after it.
+/// With all levels filed: verdicts around the turn, then beams, starts and levels, each with verdicts after it.
 fn finale(script: &mut Script, plan: &Plan) {
     ask_all(script, plan.strange);
     verdicts(script, plan);
     for _ in 0..script.dice.between(2, 6) {
-        match script.dice.below(10) {
+        match script.dice.below(14) {
             0 | 1 => reordered(script),
-            2 => drop_and_take_back(script),
-            3 => refused_list(script),
-            4 => refused_move(script, plan.strange),
-            5 => move_there_and_back(script),
-            6 => one_more_level(script),
-            7 => strange_in_its_place(script, plan.strange),
-            8 => refused_start(script, plan.strange),
-            _ => follow_verdict(script, plan.hysteresis),
+            2 => neighbour_dropped(script),
+            3 => refused_beam(script),
+            4 => say_former_call(script),
+            5 => there_and_back(script),
+            6 | 7 => one_more_level(script),
+            8 => strange_in_its_place(script),
+            9 => refused_start(script, plan.strange),
+            10 => neighbour_serves(script),
+            11 => stranger_serves(script),
+            _ => follow_verdict(script, plan.hysteresis.max(1) - 1),
         }
         let near = script.dice.between(-1, 1);
         say_verdict(script, plan.hysteresis + near);
@@ -251,7 +186,6 @@ fn start_again(script: &mut Script, plan: &Plan) -> i32 {
         script.say(&format!("ask {channel}"));
     }
     script.say(&format!("ask {serving}"));
-    script.say(&format!("move {neighbour}"));
     if answer == "accepted" { depth } else { plan.depth }
 }
 
@@ -260,8 +194,7 @@ fn fill_again(script: &mut Script, depth: i32) {
     let serving = serving(script);
     for filed in 1..=depth + 1 {
         let level = script.dice.within(&LEVEL_RANGE);
-        let burst = script.heard(level);
-        script.say(&format!("file {serving} {burst}"));
+        say_level(script, serving, level);
         if filed >= depth - 1 {
             say_verdict(script, 0);
             script.say(&format!("ask {serving}"));
@@ -279,44 +212,10 @@ fn verdicts(script: &mut Script, plan: &Plan) {
     }
 }
 
-/// Drops one neighbour and takes it back later, when it has no levels any more.
-fn drop_and_take_back(script: &mut Script) {
-    let list = neighbours(script);
-    if let Some((first, others)) = list.split_first() {
-        say_list(script, others);
-        script.say(&format!("ask {first}"));
-        say_list(script, &list);
-        script.say(&format!("ask {first}"));
-    }
-}
-
-/// Puts a strange channel where a neighbour stood; it has no levels.
-fn strange_in_its_place(script: &mut Script, strange: i32) {
-    let mut list = neighbours(script);
-    if !list.is_empty() && !list.contains(&strange) {
-        let place = script.dice.below(list.len());
-        list[place] = strange;
-        say_list(script, &list);
-        script.say(&format!("ask {strange}"));
-    }
-}
-
 /// One more level under any watched channel, so that its oldest goes.
 fn one_more_level(script: &mut Script) {
-    let mut channels = neighbours(script);
-    channels.push(serving(script));
-    let (channel, level) = (script.dice.pick(&channels), script.dice.within(&LEVEL_RANGE));
-    let burst = script.heard(level);
-    script.say(&format!("file {channel} {burst}"));
-}
-
-/// Does what the verdict says, as a terminal would.
-fn follow_verdict(script: &mut Script, hysteresis: i32) {
-    let answer = say_verdict(script, hysteresis.max(1) - 1);
-    if answer.starts_with("move ") {
-        script.say(&answer);
-        script.say(&answer);
-    }
+    let (channel, level) = (script.dice.pick(&watched(script)), script.dice.within(&LEVEL_RANGE));
+    say_level(script, channel, level);
 }
 
 /// Calls in any order over few channels and few levels, so that sums are often equal.
@@ -326,14 +225,14 @@ pub fn loose_watch(script: &mut Script) {
     let levels = [-9_000, -9_000, -9_001, -8_999, -1, -2, 0, -15_000];
     if script.dice.one_in(2) {
         loose_start(script, channels[0]);
-        loose_list(script, &channels);
+        loose_beam(script, &channels);
     }
     for _ in 0..script.dice.between(30, 120) {
         let channel = script.dice.pick(&channels);
         match script.dice.below(42) {
             0 => loose_start(script, channel),
-            1..=3 => loose_list(script, &channels),
-            4 | 5 => drop(script.say(&format!("move {channel}"))),
+            1..=4 => loose_beam(script, &channels),
+            5 => say_former_call(script),
             6..=8 => drop(script.say(&format!("ask {channel}"))),
             9..=11 => {
                 let hysteresis = script.dice.pick(&[0, 0, 1, 2, 100, 6_000, -1, 6_001]);
@@ -345,11 +244,10 @@ pub fn loose_watch(script: &mut Script) {
             }
             13 => drop(script.say(&format!("file {channel} missed"))),
             14 => refused_start(script, channel),
-            15 => refused_list(script),
+            15 => refused_beam(script),
             _ => {
                 let level = script.dice.pick(&levels);
-                let burst = script.heard(level);
-                script.say(&format!("file {channel} {burst}"));
+                say_level(script, channel, level);
             }
         }
     }
@@ -362,31 +260,20 @@ fn loose_start(script: &mut Script, channel: i32) {
     script.say(&line);
 }
 
-/// A list of any of the channels, in any order, at times with one of them at any place once more.
-fn loose_list(script: &mut Script, channels: &[i32]) {
-    let mut list = channels.to_vec();
-    script.dice.shuffle(&mut list);
-    list.retain(|channel| *channel != serving(script));
-    list.truncate(script.dice.below(MOST_NEIGHBOURS + 1));
-    if script.dice.one_in(6) {
-        let place = script.dice.below(list.len() + 1);
-        list.insert(place, script.dice.pick(channels));
-    }
-    say_list(script, &list);
-}
-
 /// Questions to an idle watch, which only the beginning of a session has.
 pub fn idle_watch(script: &mut Script) {
     let mut lines = vec![
-        "ask 0", "ask 5", "ask 1088", "move 0", "move 7", "file 0 heard -90 5", "file 0 missed",
-        "file 3 heard nan nan", "list", "list 0", "list 1 2 3", "list 0 0", "list 1 2 3 4 5 6", "list 1 2 3 4 5 6 7",
-        "list 1 2 3 4 5 6 7 8", "list 1088", "list 1087", "verdict 0", "verdict 6000", "verdict 6001", "verdict -1",
-        "start 1088", "start 65535", "start 5 4", "start 0 32", "start 0 0", "start 7 255", "start 1088 4",
-        "start 1088 32", "start 65535 0", "start 1088 15", "start 1088 31", "list 5 65535 5", "step failed 0",
-        "step 10 20 0", "step 64 0 0", "step failed 4001", "choose 0", "sweep next", "sweep counts", "choose 6001",
+        "ask 0", "ask 5", "ask 1088", "file 0 heard -90 5", "file 0 missed", "file 3 heard nan nan", "beam 0", "beam 5",
+        "beam 0 1", "beam 1 0", "beam 0 0", "beam 3 3", "beam 3 0 0", "beam 1087 0", "beam 7 1 2 3 4 5 6",
+        "beam 8 1 2 3 4 5 6 7", "beam 9 1 2 3 4 5 6 7 8", "beam 1088", "beam 1088 5 5", "beam 65535 1 2 3 4 5 6 7",
+        "beam 5 1088", "beam 1 5 65535 5", "beam", "beam 1 2 3 4 5 6 7 8 9 10", "list", "list 5", "move 0", "move 5",
+        "verdict 0", "verdict 6000", "verdict 6001", "verdict -1", "start 1088", "start 65535", "start 5 4",
+        "start 0 32", "start 0 0", "start 7 255", "start 1088 4", "start 1088 32", "start 65535 0", "start 1088 15",
+        "start 1088 31", "step failed 0", "step 10 20 0", "step 64 0 0", "step failed 4001", "choose 0", "sweep next",
+        "sweep counts", "choose 6001",
     ];
-    let lists = idle_lists(script);
-    lines.extend(lists.iter().map(String::as_str));
+    let beams = idle_beams(script);
+    lines.extend(beams.iter().map(String::as_str));
     script.dice.shuffle(&mut lines);
     for line in lines {
         script.say(line);

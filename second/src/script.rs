@@ -13,11 +13,13 @@ const REFUSED_STARTS: [&str; 12] = [
     "start 65535 32", "start 0 4", "start 5 32", "start 1087 0", "start 9 255",
 ];
 
-/// Lists that are refused, whatever the watch: over 6 channels, one above 1,087, a repeat, or several of these.
-const REFUSED_LISTS: [&str; 12] = [
-    "list 1 2 3 4 5 6 7", "list 0 1 2 3 4 5 6 7", "list 1088 1 1 3 4 5 6", "list 1088", "list 0 65535",
-    "list 5 6 7 8 9 1088", "list 7 7", "list 1 2 3 4 5 5", "list 1087 0 1087 1088", "list 0 0 0", "list 1088 9 9",
-    "list 9 9 1088",
+/// Beams that are refused, whatever the watch: a serving channel above 1,087; a list with over 6 channels, one above
+/// 1,087, a repeat or the serving channel of the same line; or several of these.
+const REFUSED_BEAMS: [&str; 18] = [
+    "beam 1088", "beam 65535", "beam 1088 7 7", "beam 1088 1088", "beam 2000 1 2 3 4 5 6 7", "beam 9 1 2 3 4 5 6 7",
+    "beam 9 0 1 2 3 4 5 6 7", "beam 9 1088 1 1 3 4 5 6", "beam 9 1088", "beam 9 0 65535", "beam 4 5 6 7 8 9 1088",
+    "beam 7 7", "beam 0 0", "beam 6 1 2 3 4 5 6", "beam 9 7 7", "beam 0 1087 9 1087 1088", "beam 5 1088 9 9",
+    "beam 5 9 9 1088",
 ];
 
 /// The dice, the lines made so far, and the session that these lines lead to.
@@ -62,7 +64,7 @@ impl Script {
             5 => format!("level {}", any_float(&mut self.dice)).into_bytes(),
             6 => format!("quality {}", any_float(&mut self.dice)).into_bytes(),
             7 => self.dice.pick(&REFUSED_STARTS).as_bytes().to_vec(),
-            8 => self.dice.pick(&REFUSED_LISTS).as_bytes().to_vec(),
+            8 => self.dice.pick(&REFUSED_BEAMS).as_bytes().to_vec(),
             9 => b"sweep next".to_vec(),
             _ => b"sweep counts".to_vec(),
         };

@@ -1,6 +1,7 @@
 //! The plain watch of document 01: a serving channel or none, a set of neighbours and, for each channel
 //! under watch, the levels filed since it came under watch, oldest first. A place in a list exists only for the
 //! refusal of a faulty one (request E2). Where document 01 says 15, the watch reads its depth (request E8).
+//! A new serving channel and its list come in one call (request E10).
 
 use crate::limits::{DEPTH_RANGE, HIGHEST_CHANNEL, HYSTERESIS_RANGE, MOST_NEIGHBOURS};
 use crate::reading::{heard_level, Burst};
@@ -40,6 +41,26 @@ fn full_sum(levels: &[i32], depth: u8) -> Option<i64> {
     (last.len() == usize::from(depth)).then(|| last.iter().copied().map(i64::from).sum())
 }
 
+/// The fault of one place of a list, in the order of request E2: range, serving, repeat of an earlier place.
+/// The serving channel is the one that the list comes with, not the one before it.
+fn fault_at(serving: u16, list: &[u16], place: usize) -> Option<Refusal> {
+    let channel = list[place];
+    if channel > HIGHEST_CHANNEL {
+        Some(Refusal::ListRange(place))
+    } else if channel == serving {
+        Some(Refusal::ListServing(place))
+    } else if list[..place].contains(&channel) {
+        Some(Refusal::ListRepeat(place))
+    } else {
+        None
+    }
+}
+
+/// Rule "places are looked at in rising order and the first faulty one is told".
+fn first_fault(serving: u16, list: &[u16]) -> Option<Refusal> {
+    (0..list.len()).find_map(|place| fault_at(serving, list, place))
+}
+
 impl Watch {
     /// The serving channel, if the watch is not idle.
     pub fn serving(&self) -> Option<u16> {
@@ -66,49 +87,24 @@ impl Watch {
         Ok(())
     }
 
-    /// The fault of one place of a list, in the order of request E2: range, serving, repeat of an earlier place.
-    fn fault_at(&self, list: &[u16], place: usize) -> Option<Refusal> {
-        let channel = list[place];
-        if channel > HIGHEST_CHANNEL {
-            Some(Refusal::ListRange(place))
-        } else if self.serving == Some(channel) {
-            Some(Refusal::ListServing(place))
-        } else if list[..place].contains(&channel) {
-            Some(Refusal::ListRepeat(place))
-        } else {
-            None
-        }
-    }
-
-    /// Rule "places are looked at in rising order and the first faulty one is told".
-    fn first_fault(&self, list: &[u16]) -> Option<Refusal> {
-        (0..list.len()).find_map(|place| self.fault_at(list, place))
-    }
-
-    /// Rule "new list": kept channels keep their levels, dropped ones lose them, new ones have none.
-    pub fn new_list(&mut self, list: &[u16]) -> Result<(), Refusal> {
+    /// Rule "new beam": this channel serves, with the channels of its list as neighbours. One watched before and after
+    /// keeps its levels, in whichever role; any other has none; a dropped one loses them. The depth stays.
+    pub fn new_beam(&mut self, serving: u16, list: &[u16]) -> Result<(), Refusal> {
         let mut faults = vec![
+            (Refusal::Channel, serving > HIGHEST_CHANNEL),
             (Refusal::LongList, list.len() > MOST_NEIGHBOURS),
             (Refusal::NotWatched, self.serving.is_none()),
         ];
-        faults.extend(self.first_fault(list).map(|fault| (fault, true)));
+        faults.extend(first_fault(serving, list).map(|fault| (fault, true)));
         judge(&faults)?;
+        self.serving = Some(serving);
         self.neighbours = list.iter().copied().collect();
         let mut under_watch = self.neighbours.clone();
-        under_watch.extend(self.serving);
+        under_watch.insert(serving);
         self.levels.retain(|channel, _| under_watch.contains(channel));
         for channel in under_watch {
             self.levels.entry(channel).or_default();
         }
-        Ok(())
-    }
-
-    /// Rule "move": the neighbour and the serving channel change roles; all levels stay.
-    pub fn move_to(&mut self, neighbour: u16) -> Result<(), Refusal> {
-        judge(&[(Refusal::NotWatched, !self.neighbours.contains(&neighbour))])?;
-        self.neighbours.remove(&neighbour);
-        self.neighbours.extend(self.serving);
-        self.serving = Some(neighbour);
         Ok(())
     }
 
@@ -179,7 +175,7 @@ mod tests {
     fn watching_at(depth: u8, serving: u16, list: &[u16]) -> Watch {
         let mut watch = Watch::default();
         watch.start(serving, depth).unwrap();
-        watch.new_list(list).unwrap();
+        watch.new_beam(serving, list).unwrap();
         watch
     }
 
@@ -246,35 +242,100 @@ mod tests {
         let mut watch = watching(1, &[2, 3, 4]);
         fill(&mut watch, 2, 1, -200);
         fill(&mut watch, 3, 2, -300);
-        watch.new_list(&[4, 3, 2]).unwrap();
+        watch.new_beam(1, &[4, 3, 2]).unwrap();
         assert_eq!(watch.ask(2), Ok((1, -200)));
         assert_eq!(watch.ask(3), Ok((2, -300)));
         assert_eq!(watch.ask(4), Ok((0, 0)));
     }
 
     #[test]
-    fn a_dropped_channel_comes_back_without_levels() {
+    fn a_dropped_neighbour_comes_back_without_levels() {
         let mut watch = watching(1, &[2, 3]);
         fill(&mut watch, 2, 3, -200);
-        watch.new_list(&[3]).unwrap();
+        watch.new_beam(1, &[3]).unwrap();
         assert_eq!(watch.ask(2), Err(Refusal::NotWatched));
-        watch.new_list(&[3, 2]).unwrap();
+        watch.new_beam(1, &[3, 2]).unwrap();
         assert_eq!(watch.ask(2), Ok((0, 0)));
     }
 
     #[test]
-    fn a_move_changes_roles_and_keeps_levels() {
+    fn a_neighbour_serves_and_the_old_serving_channel_in_the_list_keeps_its_levels() {
         let mut watch = watching(1, &[2, 3]);
         fill(&mut watch, 1, 4, -100);
         fill(&mut watch, 2, 2, -200);
-        assert_eq!(watch.move_to(2), Ok(()));
+        assert_eq!(watch.new_beam(2, &[3, 1]), Ok(()));
         assert_eq!(watch.serving(), Some(2));
         assert_eq!(watch.neighbours(), &BTreeSet::from([1, 3]));
-        assert_eq!((watch.ask(1), watch.ask(2)), (Ok((4, -100)), Ok((2, -200))));
-        assert_eq!(watch.move_to(2), Err(Refusal::NotWatched));
-        assert_eq!(watch.move_to(9), Err(Refusal::NotWatched));
-        assert_eq!(watch.new_list(&[2]), Err(Refusal::ListServing(0)));
-        assert_eq!(watch.new_list(&[1]), Ok(()));
+        assert_eq!((watch.ask(1), watch.ask(2), watch.ask(3)), (Ok((4, -100)), Ok((2, -200)), Ok((0, 0))));
+    }
+
+    #[test]
+    fn a_dropped_serving_channel_comes_back_without_levels() {
+        for back in [(1, &[2][..]), (2, &[1]), (9, &[2, 1])] {
+            let mut watch = watching(1, &[2]);
+            fill(&mut watch, 1, 15, -100);
+            fill(&mut watch, 2, 15, -200);
+            watch.new_beam(2, &[3]).unwrap();
+            assert_eq!(watch.ask(1), Err(Refusal::NotWatched));
+            assert_eq!(watch.verdict(0), Ok(Verdict::Stay));
+            watch.new_beam(back.0, back.1).unwrap();
+            assert_eq!((watch.ask(1), watch.ask(2)), (Ok((0, 0)), Ok((15, -200))));
+        }
+    }
+
+    #[test]
+    fn a_stranger_serves_without_levels_and_the_verdict_waits() {
+        let mut watch = watching(1, &[2]);
+        fill(&mut watch, 1, 15, -100);
+        fill(&mut watch, 2, 15, -90);
+        watch.new_beam(7, &[1, 2]).unwrap();
+        assert_eq!((watch.ask(7), watch.ask(1), watch.ask(2)), (Ok((0, 0)), Ok((15, -100)), Ok((15, -90))));
+        fill(&mut watch, 7, 14, -200);
+        assert_eq!(watch.verdict(0), Ok(Verdict::Wait));
+        fill(&mut watch, 7, 1, -200);
+        assert_eq!(watch.verdict(0), Ok(Verdict::Move(2)));
+    }
+
+    #[test]
+    fn the_same_beam_again_changes_nothing() {
+        let mut watch = watching(1, &[2, 3]);
+        fill(&mut watch, 1, 20, -100);
+        fill(&mut watch, 3, 2, -300);
+        let before = watch.clone();
+        for list in [[2, 3], [3, 2]] {
+            assert_eq!(watch.new_beam(1, &list), Ok(()));
+            assert_eq!(watch, before);
+        }
+    }
+
+    /// Every serving channel with every list, in rising order, out of the channels 0 to 3.
+    fn small_beams() -> Vec<(u16, Vec<u16>)> {
+        let list = |bits: u16| (0..4).filter(|channel| bits >> channel & 1 == 1).collect::<Vec<u16>>();
+        let beams = (0..4).flat_map(|serving| (0..16).map(move |bits| (serving, list(bits))));
+        beams.filter(|(serving, list)| !list.contains(serving)).collect()
+    }
+
+    #[test]
+    fn from_every_beam_to_every_beam_a_channel_watched_in_both_keeps_its_levels() {
+        let is_in = |beam: &(u16, Vec<u16>), channel: u16| beam.0 == channel || beam.1.contains(&channel);
+        for (before, after) in small_beams().iter().flat_map(|b| small_beams().into_iter().map(move |a| (b, a))) {
+            let mut watch = watching_at(5, before.0, &before.1);
+            for channel in (0..4).filter(|channel| is_in(before, *channel)) {
+                fill(&mut watch, channel, 3 + 2 * usize::from(channel), -10 - i32::from(channel));
+            }
+            watch.new_beam(after.0, &after.1).unwrap();
+            assert_eq!(watch.serving(), Some(after.0));
+            assert_eq!(watch.neighbours(), &after.1.iter().copied().collect());
+            for channel in 0..4 {
+                let kept = Ok((5.min(3 + 2 * usize::from(channel)), -10 - i64::from(channel)));
+                let expected = match (is_in(before, channel), is_in(&after, channel)) {
+                    (true, true) => kept,
+                    (false, true) => Ok((0, 0)),
+                    (_, false) => Err(Refusal::NotWatched),
+                };
+                assert_eq!(watch.ask(channel), expected, "{before:?} {after:?}");
+            }
+        }
     }
 
     #[test]
@@ -400,22 +461,27 @@ mod tests {
     }
 
     #[test]
-    fn new_list_and_move_keep_the_depth() {
+    fn a_new_beam_keeps_the_depth() {
         for depth in [5, 31] {
+            let full = usize::from(depth);
             let mut watch = watching_at(depth, 10, &[20]);
             fill(&mut watch, 10, 40, -10_000);
-            watch.new_list(&[30, 20]).unwrap();
+            watch.new_beam(10, &[30, 20]).unwrap();
             fill(&mut watch, 30, 40, -9_000);
-            watch.move_to(30).unwrap();
-            fill(&mut watch, 20, usize::from(depth) - 1, -1);
+            watch.new_beam(30, &[10, 20]).unwrap();
+            fill(&mut watch, 20, full - 1, -1);
             assert_eq!(watch.verdict(0), Ok(Verdict::Stay));
             fill(&mut watch, 20, 40, -1);
             assert_eq!(watch.verdict(0), Ok(Verdict::Move(20)));
             for channel in [10, 20, 30] {
-                assert_eq!(watch.ask(channel).unwrap().0, usize::from(depth));
+                assert_eq!(watch.ask(channel).unwrap().0, full);
             }
-            watch.new_list(&[]).unwrap();
-            assert_eq!(watch.ask(30), Ok((usize::from(depth), -9_000)));
+            watch.new_beam(40, &[30]).unwrap();
+            fill(&mut watch, 40, full - 1, -9_500);
+            assert_eq!(watch.verdict(0), Ok(Verdict::Wait));
+            fill(&mut watch, 40, 2, -9_500);
+            assert_eq!(watch.ask(40), Ok((full, -9_500)));
+            assert_eq!(watch.verdict(499), Ok(Verdict::Move(30)));
         }
     }
 
@@ -426,24 +492,37 @@ mod tests {
         watch
     }
 
-    /// The refusal of a list on this watch, which a refused list must leave as it was.
-    fn refusal_of(watch: &Watch, list: &[u16]) -> Refusal {
+    /// A watch on 99 with 10 in its list and an idle one; a beam is judged there as on 10.
+    fn elsewhere() -> [Watch; 2] {
+        [watching(99, &[1, 10]), Watch::default()]
+    }
+
+    /// The refusal of a new beam on this watch, which a refused one must leave as it was.
+    fn refusal_of(watch: &Watch, serving: u16, list: &[u16]) -> Refusal {
         let mut after = watch.clone();
-        let refusal = after.new_list(list).unwrap_err();
-        assert_eq!(&after, watch, "{list:?}");
+        let refusal = after.new_beam(serving, list).unwrap_err();
+        assert_eq!(&after, watch, "{serving} {list:?}");
+        refusal
+    }
+
+    /// The refusal of a new beam on 10, which is the same whatever the watch was before.
+    fn refusal_on_10(list: &[u16]) -> Refusal {
+        let refusal = refusal_of(&on_10(), 10, list);
+        for watch in elsewhere() {
+            assert_eq!(refusal_of(&watch, 10, list), refusal, "{list:?}");
+        }
         refusal
     }
 
     #[test]
     fn each_fault_of_a_list_has_its_number_and_its_place() {
-        let watch = on_10();
         for (list, number, place) in [
             (&[1, 2, 3, 4, 5, 6, 7][..], 11, None),
             (&[1, 1_088, 2], 12, Some(1)),
             (&[1, 2, 1], 13, Some(2)),
             (&[10, 1, 2], 14, Some(0)),
         ] {
-            let refusal = refusal_of(&watch, list);
+            let refusal = refusal_on_10(list);
             assert_eq!((refusal.number(), refusal.place()), (number, place), "{list:?}");
         }
     }
@@ -451,47 +530,42 @@ mod tests {
     #[test]
     fn a_sound_list_has_up_to_6_channels_of_the_whole_range() {
         let mut watch = on_10();
-        assert_eq!(watch.new_list(&[1, 2, 3, 4, 5, 1_087]), Ok(()));
-        assert_eq!(watch.new_list(&[1_087, 0, 9, 11, 1, 2]), Ok(()));
+        assert_eq!(watch.new_beam(10, &[1, 2, 3, 4, 5, 1_087]), Ok(()));
+        assert_eq!(watch.new_beam(10, &[1_087, 0, 9, 11, 1, 2]), Ok(()));
         assert_eq!(watch.ask(1), Ok((3, -100)));
-        assert_eq!(watch.new_list(&[]), Ok(()));
+        assert_eq!(watch.new_beam(10, &[]), Ok(()));
         assert!(watch.neighbours().is_empty());
     }
 
     #[test]
     fn over_6_channels_are_told_before_any_place() {
-        for watch in [on_10(), Watch::default()] {
-            for list in [
-                &[1, 2, 3, 4, 5, 6, 7][..],
-                &[1, 2, 3, 4, 5, 6, 7, 8],
-                &[1_088, 2, 3, 4, 5, 6, 7],
-                &[1, 2, 3, 4, 5, 6, 65_535],
-                &[10, 2, 3, 4, 5, 6, 7, 8],
-                &[1, 2, 3, 4, 5, 6, 7, 10],
-                &[1, 1, 3, 4, 5, 6, 7],
-                &[1, 1, 1, 1, 1, 1, 1, 1],
-                &[1_088; 7],
-                &[10; 8],
-            ] {
-                assert_eq!(refusal_of(&watch, list), Refusal::LongList, "{list:?}");
-            }
+        for list in [
+            &[1, 2, 3, 4, 5, 6, 7][..],
+            &[1, 2, 3, 4, 5, 6, 7, 8],
+            &[1_088, 2, 3, 4, 5, 6, 7],
+            &[1, 2, 3, 4, 5, 6, 65_535],
+            &[10, 2, 3, 4, 5, 6, 7, 8],
+            &[1, 2, 3, 4, 5, 6, 7, 10],
+            &[1, 1, 3, 4, 5, 6, 7],
+            &[1, 1, 1, 1, 1, 1, 1, 1],
+            &[1_088; 7],
+            &[10; 8],
+        ] {
+            assert_eq!(refusal_on_10(list), Refusal::LongList, "{list:?}");
         }
     }
 
     #[test]
     fn each_fault_is_told_at_every_place() {
-        let watch = on_10();
         for size in 1..=6 {
             for place in 0..size {
                 let mut list: Vec<u16> = (1..=6).take(size).collect();
                 for above in [1_088, 1_089, 2_058, 65_535] {
                     list[place] = above;
-                    assert_eq!(refusal_of(&watch, &list), Refusal::ListRange(place));
-                    assert_eq!(refusal_of(&Watch::default(), &list), Refusal::ListRange(place));
+                    assert_eq!(refusal_on_10(&list), Refusal::ListRange(place));
                 }
                 list[place] = 10;
-                assert_eq!(refusal_of(&watch, &list), Refusal::ListServing(place));
-                assert_eq!(refusal_of(&Watch::default(), &list), Refusal::NotWatched);
+                assert_eq!(refusal_on_10(&list), Refusal::ListServing(place));
             }
         }
     }
@@ -502,15 +576,13 @@ mod tests {
             for earlier in 0..later {
                 let mut list = [1, 2, 3, 4, 5, 6];
                 list[later] = list[earlier];
-                assert_eq!(refusal_of(&on_10(), &list), Refusal::ListRepeat(later));
-                assert_eq!(refusal_of(&Watch::default(), &list), Refusal::ListRepeat(later));
+                assert_eq!(refusal_on_10(&list), Refusal::ListRepeat(later));
             }
         }
     }
 
     #[test]
     fn of_several_faulty_places_the_first_is_told() {
-        let watch = on_10();
         for (list, told) in [
             (&[1_088, 1, 1][..], Refusal::ListRange(0)),
             (&[1, 1_088, 1], Refusal::ListRange(1)),
@@ -531,17 +603,17 @@ mod tests {
             (&[1, 2, 3, 1_088, 10, 2], Refusal::ListRange(3)),
             (&[1, 2, 3, 10, 2, 1_088], Refusal::ListServing(3)),
         ] {
-            assert_eq!(refusal_of(&watch, list), told, "{list:?}");
+            assert_eq!(refusal_on_10(list), told, "{list:?}");
         }
     }
 
     #[test]
     fn at_one_place_the_order_is_range_serving_repeat() {
-        let watch = on_10();
-        assert_eq!(watch.fault_at(&[1_088, 1_088], 1), Some(Refusal::ListRange(1)));
-        assert_eq!(watch.fault_at(&[10, 10], 1), Some(Refusal::ListServing(1)));
-        assert_eq!(watch.fault_at(&[5, 5], 1), Some(Refusal::ListRepeat(1)));
-        assert_eq!(watch.fault_at(&[5, 6], 1), None);
+        assert_eq!(fault_at(10, &[1_088, 1_088], 1), Some(Refusal::ListRange(1)));
+        assert_eq!(fault_at(1_088, &[1_088, 1_088], 1), Some(Refusal::ListRange(1)));
+        assert_eq!(fault_at(10, &[10, 10], 1), Some(Refusal::ListServing(1)));
+        assert_eq!(fault_at(10, &[5, 5], 1), Some(Refusal::ListRepeat(1)));
+        assert_eq!(fault_at(10, &[5, 6], 1), None);
     }
 
     /// Every list of up to four of these channels.
@@ -559,7 +631,6 @@ mod tests {
 
     #[test]
     fn a_told_place_has_one_fault_and_all_before_it_have_none() {
-        let watch = on_10();
         for list in short_lists(&[1, 2, 10, 1_087, 1_088, 65_535]) {
             let faults_at = |place: usize| {
                 let channel = list[place];
@@ -568,10 +639,11 @@ mod tests {
             };
             let first = (0..list.len()).find(|place| faults_at(*place).count() > 0);
             let Some(first) = first else {
-                assert_eq!(watch.clone().new_list(&list), Ok(()), "{list:?}");
+                assert_eq!(on_10().new_beam(10, &list), Ok(()), "{list:?}");
+                assert_eq!(refusal_of(&Watch::default(), 10, &list), Refusal::NotWatched, "{list:?}");
                 continue;
             };
-            let told = refusal_of(&watch, &list);
+            let told = refusal_on_10(&list);
             // What the order at one place decides cannot be seen in an answer: of two faults there, an earlier place
             // has the other already.
             let faults: Vec<(u8, bool)> = faults_at(first).collect();
@@ -580,29 +652,42 @@ mod tests {
     }
 
     #[test]
-    fn an_idle_watch_has_no_serving_channel_and_tells_the_group_before_6() {
-        let watch = Watch::default();
-        for list in [&[][..], &[0], &[10], &[0, 10, 1_087], &[1, 2, 3, 4, 5, 6]] {
-            assert_eq!(refusal_of(&watch, list), Refusal::NotWatched);
-        }
-        assert_eq!(refusal_of(&watch, &[0, 0]), Refusal::ListRepeat(1));
-        assert_eq!(refusal_of(&watch, &[1_088]), Refusal::ListRange(0));
-        assert_eq!(refusal_of(&watch, &[0, 1, 0, 1_088]), Refusal::ListRepeat(2));
-        assert_eq!(refusal_of(&watch, &[0, 1_088, 0]), Refusal::ListRange(1));
-        for list in short_lists(&[0, 10, 1_087, 1_088]) {
-            assert!(!matches!(refusal_of(&watch, &list), Refusal::ListServing(_)), "{list:?}");
+    fn a_serving_channel_above_1087_is_told_before_any_list_and_an_idle_watch() {
+        for watch in [on_10(), Watch::default()] {
+            for serving in [1_088, 1_089, 2_058, 65_535] {
+                for list in short_lists(&[1, 10, 1_088, serving]) {
+                    assert_eq!(refusal_of(&watch, serving, &list), Refusal::Channel, "{serving} {list:?}");
+                }
+                assert_eq!(refusal_of(&watch, serving, &[1; 7]), Refusal::Channel);
+                assert_eq!(refusal_of(&watch, serving, &[1, 2, 3, 4, 5, 6, 7, 8]), Refusal::Channel);
+            }
         }
     }
 
     #[test]
-    fn the_serving_channel_of_a_list_is_the_one_of_now() {
-        let mut watch = on_10();
-        watch.move_to(2).unwrap();
-        assert_eq!(refusal_of(&watch, &[10, 1, 2]), Refusal::ListServing(2));
-        assert_eq!(watch.new_list(&[10, 1]), Ok(()));
-        watch.start(0, 15).unwrap();
-        assert_eq!(refusal_of(&watch, &[2, 0]), Refusal::ListServing(1));
-        assert_eq!(watch.new_list(&[2, 10]), Ok(()));
+    fn an_idle_watch_tells_the_group_before_6() {
+        let watch = Watch::default();
+        for list in [&[][..], &[0], &[10], &[0, 10, 1_087], &[1, 2, 3, 4, 5, 6]] {
+            assert_eq!(refusal_of(&watch, 99, list), Refusal::NotWatched);
+        }
+        assert_eq!(refusal_of(&watch, 1_087, &[0]), Refusal::NotWatched);
+        assert_eq!(refusal_of(&watch, 0, &[1_087]), Refusal::NotWatched);
+        assert_eq!(refusal_of(&watch, 0, &[0]), Refusal::ListServing(0));
+        assert_eq!(refusal_of(&watch, 10, &[1, 2, 10]), Refusal::ListServing(2));
+        assert_eq!(refusal_of(&watch, 10, &[0, 0]), Refusal::ListRepeat(1));
+        assert_eq!(refusal_of(&watch, 10, &[1_088]), Refusal::ListRange(0));
+        assert_eq!(refusal_of(&watch, 10, &[1; 7]), Refusal::LongList);
+    }
+
+    #[test]
+    fn a_list_is_judged_against_the_serving_channel_that_it_comes_with() {
+        let watch = on_10();
+        assert_eq!(refusal_of(&watch, 2, &[10, 1, 2]), Refusal::ListServing(2));
+        assert_eq!(refusal_of(&watch, 7, &[7, 10]), Refusal::ListServing(0));
+        assert_eq!(refusal_of(&watch, 7, &[10, 10]), Refusal::ListRepeat(1));
+        for (serving, list) in [(2, &[10, 1][..]), (1, &[2, 10]), (7, &[10]), (7, &[2, 10, 1]), (10, &[7])] {
+            assert_eq!(watch.clone().new_beam(serving, list), Ok(()), "{serving} {list:?}");
+        }
     }
 
     #[test]
@@ -612,7 +697,7 @@ mod tests {
         assert_eq!(watch.verdict(6_001), Err(Refusal::Parameter));
         assert_eq!(watch.verdict(0), Err(Refusal::NotWatched));
         assert_eq!(watch.ask(0), Err(Refusal::NotWatched));
-        assert_eq!(watch.move_to(0), Err(Refusal::NotWatched));
+        assert_eq!(watch.new_beam(0, &[]), Err(Refusal::NotWatched));
         assert_eq!(watch.file(0, heard(-1)), Err(Refusal::NotWatched));
         assert_eq!(watch.start(2_000, 15), Err(Refusal::Channel));
         assert_eq!(watch.start(0, 4), Err(Refusal::Parameter));
@@ -623,9 +708,9 @@ mod tests {
     fn channel_0_is_watched_only_if_named() {
         let mut watch = watching(5, &[]);
         assert_eq!(watch.ask(0), Err(Refusal::NotWatched));
-        assert_eq!(watch.move_to(0), Err(Refusal::NotWatched));
-        watch.new_list(&[0]).unwrap();
+        watch.new_beam(5, &[0]).unwrap();
         assert_eq!(watch.file(0, heard(-7)), Ok(()));
+        watch.new_beam(0, &[]).unwrap();
         assert_eq!(watch.ask(0), Ok((1, -7)));
     }
 

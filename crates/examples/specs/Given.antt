@@ -10,7 +10,7 @@ use Rattle.readings_rules.specs.declared.Burst.the-variants.{Heard}
 use Rattle.sweep_rules.specs.Map.{channels, withBit}
 use Rattle.sweep_rules.specs.Record.{freshSweep}
 use Rattle.sweep_rules.specs.declared.Sweep.{Sweep}
-use Rattle.watch_rules.specs.Told.{Call, start, newList, file, Given}
+use Rattle.watch_rules.specs.Told.{Call, start, newBeam, file, Given}
 use Rattle.watch_rules.specs.Record.{fresh, called, afterFrom}
 use Rattle.power_rules.specs.declared.PowerParameters.{PowerParameters}
 use Rattle.power_rules.specs.declared.PowerRecord.{PowerRecord}
@@ -78,7 +78,7 @@ twoLevels = start 100 15 ∷ file 100 (heardAt 0xbc23_d70a) ∷ file 100 (heardA
 -- "Serving 15 times -10,000, a neighbour 15 times -9,700", the depth for 15: channels 100 and 200, -100 and -97 dBm, the serving channel n times
 abbrev pub twoChannels : ℕ → ℕ → List Call
 twoChannels depth n =
-    start 100 depth ∷ newList (200 ∷ []) ∷ (replicate n (file 100 (heardAt 0xc2c8_0000)) ++ replicate depth (file 200 (heardAt 0xc2c2_0000)))
+    start 100 depth ∷ newBeam 100 (200 ∷ []) ∷ (replicate n (file 100 (heardAt 0xc2c8_0000)) ++ replicate depth (file 200 (heardAt 0xc2c2_0000)))
 
 -- 0 dBm, then n times -1 dBm, for channel 100 at depth 31
 abbrev pub firstAndMore : ℕ → List Call

@@ -2,13 +2,13 @@
 -- paper's words, those of the watch at depth 15; so are those that are not, which are run besides, and at the end rows of our own, by its rules and
 -- by document 02.
 use mathlib.Core.Path.{_≡_}
-use mathlib.Core.List.{List, [], _∷_}
+use mathlib.Core.List.{List, [], _∷_, _++_}
 use lib.IntN.{pos}
 use Rattle.refusal.specs.declared.Reason.the-variants.{Alone, At}
 use Rattle.refusal.specs.Told.{refused, gives}
 use Rattle.readings_rules.specs.Hundredths.{levelOf, qualityOf}
 use Rattle.choice_rules.specs.Choose.{camp, read, noBeam, choosing}
-use Rattle.watch_rules.specs.Told.{start, newList, ask, verdict, levels, wait, stay, moveTo}
+use Rattle.watch_rules.specs.Told.{start, newBeam, ask, verdict, levels, wait, stay, moveTo}
 use Rattle.power_rules.specs.declared.Decoded.the-variants.{Failed, Codes}
 use Rattle.power_rules.specs.Calls.{stepped}
 use Rattle.examples.specs.Given.{minus, single, nothingHeard, threeHeard, nothingRead, threeRead, answerAfter, serving, twoLevels, twoChannels, firstAndMore, parameters, unequalGains, atStart, parOf, pansSent}
@@ -69,15 +69,24 @@ table =
     ∷ answerAfter [] (start 1088 4) comesTo refused (Alone 7)
     ∷ answerAfter [] (start 1088 32) comesTo refused (Alone 7)
     ∷ answerAfter [] (start 1088 31) comesTo refused (Alone 2)
-    -- document 02, E2, where 100 serves. A list of seven is refused with 11, whatever stands in it
-    ∷ answerAfter serving (newList (1088 ∷ 100 ∷ 200 ∷ 200 ∷ 300 ∷ 400 ∷ 500 ∷ [])) comesTo refused (Alone 11)
+    -- document 02, E2, in a new beam with 100 as it serves. A list of seven is refused with 11, whatever stands in it
+    ∷ answerAfter serving (newBeam 100 (1088 ∷ 100 ∷ 200 ∷ 200 ∷ 300 ∷ 400 ∷ 500 ∷ [])) comesTo refused (Alone 11)
     -- else the first faulty place is told: a channel above 1,087, the serving channel, a repeat at its second place
-    ∷ answerAfter serving (newList (200 ∷ 1088 ∷ 100 ∷ [])) comesTo refused (At 12 1)
-    ∷ answerAfter serving (newList (200 ∷ 100 ∷ 1088 ∷ [])) comesTo refused (At 14 1)
-    ∷ answerAfter serving (newList (200 ∷ 300 ∷ 200 ∷ 100 ∷ [])) comesTo refused (At 13 2)
-    -- on an idle watch nobody serves, and the list comes before 6
-    ∷ answerAfter [] (newList (100 ∷ 100 ∷ [])) comesTo refused (At 13 1)
-    ∷ answerAfter [] (newList (100 ∷ [])) comesTo refused (Alone 6)
+    ∷ answerAfter serving (newBeam 100 (200 ∷ 1088 ∷ 100 ∷ [])) comesTo refused (At 12 1)
+    ∷ answerAfter serving (newBeam 100 (200 ∷ 100 ∷ 1088 ∷ [])) comesTo refused (At 14 1)
+    ∷ answerAfter serving (newBeam 100 (200 ∷ 300 ∷ 200 ∷ 100 ∷ [])) comesTo refused (At 13 2)
+    -- document 02, E10. The list is judged against the new serving channel, not the old one, and on an idle watch too; then 6
+    ∷ answerAfter serving (newBeam 200 (100 ∷ 200 ∷ [])) comesTo refused (At 14 1)
+    ∷ answerAfter [] (newBeam 200 (200 ∷ [])) comesTo refused (At 14 0)
+    ∷ answerAfter [] (newBeam 200 (100 ∷ [])) comesTo refused (Alone 6)
+    -- a serving channel above 1,087 comes before all that
+    ∷ answerAfter [] (newBeam 1088 (1088 ∷ [])) comesTo refused (Alone 2)
+    -- a neighbour that becomes serving, with the old serving channel in its list: both keep their levels
+    ∷ answerAfter (twoChannels 5 5 ++ newBeam 200 (100 ∷ []) ∷ []) (ask 100) comesTo gives (levels 5 (minus 10000))
+    ∷ answerAfter (twoChannels 5 5 ++ newBeam 200 (100 ∷ []) ∷ []) (ask 200) comesTo gives (levels 5 (minus 9700))
+    -- a stranger serves, without levels; what it dropped comes back without them
+    ∷ answerAfter (twoLevels ++ newBeam 300 [] ∷ []) (ask 300) comesTo gives (levels 0 (pos 0))
+    ∷ answerAfter (twoLevels ++ newBeam 300 [] ∷ newBeam 100 [] ∷ []) (ask 100) comesTo gives (levels 0 (pos 0))
     ∷ []
 
 -- both sides of a row are the same

@@ -31,7 +31,7 @@ use Rattle.sweep_rules.specs.Next.{Next, channel, done, nextTold}
 use Rattle.sweep_rules.specs.Counts.{countsTold}
 use Rattle.choice_rules.specs.Choose.{Chosen, camp, read, noBeam, outcomesFine, marginInRange, choosing}
 use Rattle.watch_rules.specs.declared.Watch.{Watch}
-use Rattle.watch_rules.specs.Told.{Call, start, newList, move, file, ask, verdict, Given, accepted, levels, wait, stay, moveTo}
+use Rattle.watch_rules.specs.Told.{Call, start, newBeam, file, ask, verdict, Given, accepted, levels, wait, stay, moveTo}
 use Rattle.watch_rules.specs.Rules.{View, allowed, granted, answer, full, servingLevels, target, stayOrMove}
 use Rattle.watch_rules.specs.Record.{rows, viewOf, wellFormed, handed, returned, called, tested}
 use Rattle.watch_rules.proofs.Refusals.{told-number, told-place}
@@ -201,7 +201,7 @@ watch-told v k = go (allowed v k) refl
     go (refused (Alone n)) e = tells n (λ z. (let h = told-number v k e in omega arith))
     go (refused (At n place)) e =
         let p = told-place v k e in
-        tellsAt n place (λ z. (let h = told-number v k e in omega arith)) (p .0) (subst Changes (sym (p .1 .1)) tt)
+        tellsAt n place (λ z. (let h = told-number v k e in omega arith)) (p .0) (subst Changes (sym (p .1 .2)) tt)
 
 call-told : (w : Watch) (k : Call) → WatchTold (viewOf w) k (called w k .answer)
 unfolding called
@@ -229,8 +229,7 @@ place-back (suc n) place k h = rw (ne-eqb place noPlace (λ e. omega arith))
 change-back : (v : View) (k : Call) → Changes k → {t : Told Given} → WatchTold v k t → changeBy (refusalNumber t) (refusalPlace t) ≡ t
 unfolding changeBy
 change-back v (start c d) p grants = refl
-change-back v (newList l) p grants = refl
-change-back v (move c) p grants = refl
+change-back v (newBeam s l) p grants = refl
 change-back v (file c b) p grants = refl
 change-back v (ask c) p grants = absurd p
 change-back v (verdict h) p grants = absurd p
@@ -307,7 +306,8 @@ not-below n (negsuc m) h = absurd (h .le)
 sent-kept : (x : PowerStep) → Kept sentAnswer (λ z. z .refusal) (λ z. record { par = pos (z .par); pan = pos (z .pan) }) (handedPower x .answer)
 sent-kept x = go (handedPower x .answer) refl (step-told x)
   where
-    go : (t : Told ToSend) → handedPower x .answer ≡ t → Placeless t → Kept sentAnswer (λ z. z .refusal) (λ z. record { par = pos (z .par); pan = pos (z .pan) }) t
+    go : (t : Told ToSend) → handedPower x .answer ≡ t → Placeless t
+        → Kept sentAnswer (λ z. z .refusal) (λ z. record { par = pos (z .par); pan = pos (z .pan) }) t
     go (gives s) e p =
         let l = sendsWithinLimits (x .parameters) (x .power) (x .decoded) (x .sqi) s e in
         given refl (λ i. record { par = not-below _ (s .par) (l .par-lowest) i; pan = not-below _ (s .pan) (l .pan-lowest) i })

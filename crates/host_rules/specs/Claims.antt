@@ -17,7 +17,7 @@ use Rattle.sweep_rules.specs.Next.{nextTold}
 use Rattle.sweep_rules.specs.Counts.{countsTold}
 use Rattle.choice_rules.specs.Choose.{choosing}
 use Rattle.watch_rules.specs.declared.Watch.{Watch}
-use Rattle.watch_rules.specs.Told.{Call, start, newList, move, file, ask, verdict}
+use Rattle.watch_rules.specs.Told.{Call, start, newBeam, file, ask, verdict}
 use Rattle.watch_rules.specs.Record as watches
 use Rattle.watch_rules.specs.Record.{called}
 use Rattle.power_rules.specs.declared.PowerParameters.{PowerParameters}
@@ -34,8 +34,7 @@ OneToOneOver {A} g f = (a b : A) → f (g a) ≡ f (g b) → g a ≡ g b
 -- a call on a watch whose answer is its acceptance alone
 abbrev pub Changes : Call → Type 0
 Changes (start c d) = Unit {0}
-Changes (newList l) = Unit {0}
-Changes (move c) = Unit {0}
+Changes (newBeam s l) = Unit {0}
 Changes (file c b) = Unit {0}
 Changes (ask c) = ⊥
 Changes (verdict h) = ⊥

@@ -1,4 +1,4 @@
--- What is claimed of the refusals beyond the contracts; proved in `proofs/OneToOne.antt` under the same names.
+-- What is claimed of the refusals beyond the contracts; proved in `proofs/`, `ToldRule` in `Provided.antt` and the others in `OneToOne.antt`.
 use Prim.Native.Nat.{ℕ}
 use mathlib.Core.Path.{_≡_}
 use mathlib.Core.Logic.{_↔_}

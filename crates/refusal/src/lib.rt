@@ -7,13 +7,13 @@ ghost use Rattle.refusal.specs.Claims.{ReasonsDiffer, OutcomesDiffer, Nu
 pub enum Refusal {
     // 1: a level or quality, as a float or in hundredths, is outside its range
     ReadingOutOfRange,
-    // 2: a swept channel outside 2 to 1,086; a start channel above 1,087
+    // 2: a swept channel outside 2 to 1,086; a start channel or the serving channel of a new beam above 1,087
     ChannelOutOfRange,
     // 3: a channel already visited in this sweep
     ChannelVisited,
     // 4: a choice over an unfinished sweep
     SweepUnfinished,
-    // 6: a filed or asked channel not watched; a move to a channel not in the list; new list or verdict on an idle watch
+    // 6: a filed or asked channel not watched; new beam or verdict on an idle watch
     NotWatched,
     // 7: a margin, hysteresis, depth or power parameter out of range; PANmin above PANmax; a code above 63
     ParameterOutOfRange,

@@ -34,20 +34,16 @@ pub extern "C" fn royukezan_watch_start_by_value(
     watch_outcome(watch::start(w, serving, depth))
 }
 
-// A new list of neighbours. Refusals 9, 5, 6.
+// A new beam: its serving channel and its list. Refusals 9, 2, 11 to 14, 6.
 #[no_mangle]
-pub extern "C" fn royukezan_watch_new_list_by_value(w: Watch, list: &[u16]) -> WatchOutcome
-    ensures { λ r. ⌜ r ≡ watchOutcome (called w (Call.newList (now (list .entry)))) ⌝ }
+pub extern "C" fn royukezan_watch_new_beam_by_value(
+    w: Watch,
+    serving: u16,
+    list: &[u16],
+) -> WatchOutcome
+    ensures { λ r. ⌜ r ≡ watchOutcome (called w (Call.newBeam serving (now (list .entry)))) ⌝ }
 {
-    watch_outcome(watch::new_list(w, list))
-}
-
-// A move to a neighbour. Refusals 9, 6.
-#[no_mangle]
-pub extern "C" fn royukezan_watch_move_to_by_value(w: Watch, channel: u16) -> WatchOutcome
-    ensures { λ r. ⌜ r ≡ watchOutcome (called w (Call.move channel)) ⌝ }
-{
-    watch_outcome(watch::move_to(w, channel))
+    watch_outcome(watch::new_beam(w, serving, list))
 }
 
 // Files a heard burst. Refusals 9, 6, 1.

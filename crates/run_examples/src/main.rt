@@ -24,6 +24,7 @@ use session_texts::nothing;
 use session_texts::with;
 use session_texts::with_signed;
 use session_values::LISTED;
+use session_values::channel_at;
 use session_values::channels_at;
 use session_values::int_at;
 use session_values::num_at;
@@ -200,8 +201,9 @@ fn say_watch_calls(w: Watch) {
     say_watch(w, watch::start(w, 500, DEPTH));
     say_watch(w, watch::start(w, 1088, 4));
     let list = [300u16, 200];
-    say_watch(w, watch::new_list(w, &list));
-    say_watch(w, watch::move_to(w, 200));
+    say_watch(w, watch::new_beam(w, 100, &list));
+    let list = [100u16, 300];
+    say_watch(w, watch::new_beam(w, 200, &list));
     say_watch(w, watch::file(w, 100, heard(-90.0, 10.0)));
     say_watch(w, watch::ask(w, 100));
     say_watch(w, watch::verdict(w, 299));
@@ -224,7 +226,7 @@ const DEPTH: usize = 15;
 // Channel 100 serves, and so many levels of -10,000 are filed for it.
 fn watching(list: &[u16], times: usize) -> Watch {
     let h = watch::start(watch::fresh(), 100, DEPTH);
-    let h = watch::new_list(h.watch, list);
+    let h = watch::new_beam(h.watch, 100, list);
     filed(h.watch, 100, -100.0, times)
 }
 
@@ -271,16 +273,16 @@ fn watched(from: Watch, n: [u16; LISTED], level: i32) -> Watch {
     w
 }
 
-// A new list of the first n[0] of the other numbers, on the watch that 100 serves and on an idle one.
-fn say_list_case(n: [u16; LISTED]) {
+// A new beam with the first n[0] of the other numbers as its list, on the watch that 100 serves and on an idle one.
+fn say_beam_case(serving: u16, n: [u16; LISTED]) {
     let channels = [n[1], n[2], n[3], n[4], n[5], n[6], n[7]];
     let k = n[0] as usize;
     if k <= channels.len() {
         let list = &channels[0..k];
         let w = watch_of(b"sound");
-        say_watch(w, watch::new_list(w, list));
+        say_watch(w, watch::new_beam(w, serving, list));
         let idle = watch::fresh();
-        say_watch(idle, watch::new_list(idle, list));
+        say_watch(idle, watch::new_beam(idle, serving, list));
     }
 }
 
@@ -325,14 +327,14 @@ fn say_answers(case: &[u8]) {
         return;
     }
     let kind = case[0];
-    let n = channels_at(case);
+    let n = channels_at(case, 1);
     match kind {
         b'f' => say_float(num_at(case, 1)),
         b'h' => say_hundredths(int_at(case, 1)),
         b'm' => say(of_burst(Burst::Missed)),
         b's' => say_sweep_calls(swept(n, int_at(case, 2))),
         b'o' => say_outcomes_case(n),
-        b'l' => say_list_case(n),
+        b'b' => say_beam_case(channel_at(case, 1), channels_at(case, 2)),
         b'w' => say_watch_calls(watched(watch_of(word(case, 1)), n, int_at(case, 8))),
         b'p' => say_power_case(n),
         _ => {}

@@ -17,7 +17,7 @@ use Rattle.session_rows.specs.Calls.{Written, watching, sweeping, malfor
 use Rattle.session_rows.specs.Table.{Rows, choiceRows, powerRows, readingRows, otherRows, table, rows, rowOf, rowWritten, lineAsked}
 
 -- the number of rows of the code
-pub rows-are : 24 ≡ rows
+pub rows-are : 23 ≡ rows
 unfolding rows table watchRows sweepRows choiceRows powerRows readingRows
 rows-are = refl
 

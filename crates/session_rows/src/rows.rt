@@ -33,15 +33,14 @@ use session_watch::watch_row;
 
 // The rows in the order in which they are tried: those on the watch, of which a session has most, then those on the sweep, of the choice, on the
 // power record, and of single readings.
-const TABLE: [u8; 369] = *b"\
+const TABLE: [u8; 364] = *b"\
 file CH heard NUM NUM\n\
 file CH missed\n\
 ask CH\n\
 verdict INT\n\
 start CH\n\
 start CH BYTE\n\
-list CH..\n\
-move CH\n\
+beam CH CH..\n\
 sweep file CH heard NUM NUM\n\
 sweep file CH missed\n\
 sweep next\n\

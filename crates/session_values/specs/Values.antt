@@ -1,6 +1,6 @@
 -- The numbers of a line: its words read as numbers, by their places from 0 on. A word that is none of the kind counts as 0; a row asks for the
 -- kinds that it names alone, and a line that has the row has them.
-use Prim.Native.Nat.{ℕ, suc, _-_}
+use Prim.Native.Nat.{ℕ, suc, _+_, _-_}
 use mathlib.Core.List.{List, [], _∷_}
 use mathlib.Core.Option.{Option·getD}
 use lib.ListN.{length, take}
@@ -32,10 +32,10 @@ NUM ws k = Option·getD (numOf (wordAt ws k)) zeroNum
 abbrev pub heard : List (List ℕ) → ℕ → Burst
 heard ws k = Heard (record { level = NUM ws k; quality = NUM ws (suc k) })
 
--- the 8 words after the first, as channels
-abbrev pub listed : List (List ℕ) → List ℕ
-listed ws = CH ws 1 ∷ CH ws 2 ∷ CH ws 3 ∷ CH ws 4 ∷ CH ws 5 ∷ CH ws 6 ∷ CH ws 7 ∷ CH ws 8 ∷ []
+-- the 8 words from a place on, as the channels of a list
+abbrev pub listed : List (List ℕ) → ℕ → List ℕ
+listed ws k = CH ws k ∷ CH ws (k + 1) ∷ CH ws (k + 2) ∷ CH ws (k + 3) ∷ CH ws (k + 4) ∷ CH ws (k + 5) ∷ CH ws (k + 6) ∷ CH ws (k + 7) ∷ []
 
 -- those of them that the line has
-unfoldable pub channelsOf : List (List ℕ) → List ℕ
-channelsOf ws = take (length ws - 1) (listed ws)
+unfoldable pub channelsOf : List (List ℕ) → ℕ → List ℕ
+channelsOf ws k = take (length ws - k) (listed ws k)

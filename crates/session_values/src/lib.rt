@@ -73,18 +73,19 @@ pub fn heard_at(line: &[u8], place: u32) -> Burst
     })
 }
 
-// The words after the first, as the channels of a list.
-pub fn channels_at(line: &[u8]) -> [u16; LISTED]
-    ensures { λ r. ⌜ r ≡ listed (wordsOf (now (line .entry))) ⌝ }
+// The 8 words from a place on, as the channels of a list. A place of 32 bits always has others after it.
+pub fn channels_at(line: &[u8], place: u32) -> [u16; LISTED]
+    ensures { λ r. ⌜ r ≡ listed (wordsOf (now (line .entry))) place ⌝ }
 {
+    let k = place as usize;
     [
-        channel_at(line, 1),
-        channel_at(line, 2),
-        channel_at(line, 3),
-        channel_at(line, 4),
-        channel_at(line, 5),
-        channel_at(line, 6),
-        channel_at(line, 7),
-        channel_at(line, 8),
+        channel_at(line, k),
+        channel_at(line, k + 1),
+        channel_at(line, k + 2),
+        channel_at(line, k + 3),
+        channel_at(line, k + 4),
+        channel_at(line, k + 5),
+        channel_at(line, k + 6),
+        channel_at(line, k + 7),
     ]
 }

@@ -3,7 +3,7 @@
 use Prim.Native.Nat.{ℕ}
 use mathlib.Core.List.{List, [], _∷_}
 use Rattle.readings_rules.specs.declared.Burst.the-variants.{Missed}
-use Rattle.watch_rules.specs.Told.{Call, start, newList, move, file, ask, verdict}
+use Rattle.watch_rules.specs.Told.{Call, start, newBeam, file, ask, verdict}
 use Rattle.session_values.specs.Values.{CH, BYTE, INT, heard, channelsOf}
 use Rattle.session_calls.specs.Table.{Row, _asks_}
 
@@ -19,6 +19,5 @@ watchRows =
     ∷ ("verdict INT" asks λ ws. verdict (INT ws 1))
     ∷ ("start CH" asks λ ws. start (CH ws 1) recordedDepth)
     ∷ ("start CH BYTE" asks λ ws. start (CH ws 1) (BYTE ws 2))
-    ∷ ("list CH.." asks λ ws. newList (channelsOf ws))
-    ∷ ("move CH" asks λ ws. move (CH ws 1))
+    ∷ ("beam CH CH.." asks λ ws. newBeam (CH ws 1) (channelsOf ws 2))
     ∷ []

@@ -139,7 +139,7 @@ fn say_watch(answer: Answer) {
 fn say_watched() {
     let h = watch::start(watch::fresh(), 310, 15);
     let list = [118u16, 42, 205];
-    let h = watch::new_list(h.watch, &list);
+    let h = watch::new_beam(h.watch, 310, &list);
     let h = watch::file(h.watch, 42, burst_on(42));
     let h = watch::ask(h.watch, 42);
     let answer = h.answer;
@@ -147,7 +147,9 @@ fn say_watched() {
     let h = watch::verdict(h.watch, 300);
     let answer = h.answer;
     say_watch(answer);
-    let h = watch::move_to(h.watch, 42);
+    // Channel 42 serves now, and 310 is in its list: both keep their levels.
+    let list = [118u16, 310, 205];
+    let h = watch::new_beam(h.watch, 42, &list);
     let answer = h.answer;
     say_watch(answer);
     let h = watch::check(h.watch);

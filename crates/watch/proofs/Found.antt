@@ -14,8 +14,8 @@ use Rattle.watch_rules.proofs.Encode.{row-track}
 use Rattle.watch_rules.proofs.Calls.{formed-tracks, fine-at, first-watched}
 use Rattle.watch_record.specs.Code.{nothing, channelsOf}
 use Rattle.watch_record.proofs.Scan.{channels-rows}
-use Rattle.watch_list.proofs.Tracks.{track-at, place-among, place-outside}
-use Rattle.watch_list.proofs.Watched.{placeIn, found-place}
+use Rattle.watch_record.proofs.Tracks.{track-at, place-among, place-outside}
+use Rattle.watch_record.proofs.Watched.{placeIn, found-place}
 
 module _ (w : Watch) (c : ℕ) (formed : wellFormed w ≡ true) where
   among : watched (viewOf w) c ≡ mem c (channelsOf (take (w .watched) (w .tracks)))

@@ -17,7 +17,7 @@ use Rattle.watch_rules.specs.Record.{rowOf, trackOf, trackFine}
 use Rattle.watch_rules.proofs.Depth.{depth-low, depth-high}
 use Rattle.watch_rules.proofs.Laws.{last-short}
 use Rattle.watch_rules.proofs.Encode.{track-path, track-count, track-long, track-levels}
-use Rattle.watch_list.proofs.NewList.{padTo-snoc}
+use Rattle.watch_record.proofs.Tracks.{padTo-snoc}
 
 -- padding stands behind the list, and is that of nothing
 padTo-behind : {A : Type 0} (n : ℕ) (d : A) (xs : List A) → length xs ≤ n → padTo n d xs ≡ xs ++ padTo (n - length xs) d []

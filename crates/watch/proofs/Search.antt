@@ -20,13 +20,13 @@ use Rattle.watch_rules.specs.Lists.{mem, sum}
 use Rattle.watch_rules.specs.Told.{wait}
 use Rattle.watch_rules.specs.Rules.{View, servingLevels, target, stayOrMove, verdictOf}
 use Rattle.watch_rules.specs.Rows.{Row, row, channels, levelsOf, shown}
-use Rattle.watch_rules.specs.Record.{viewOf, rowOf, rows, tracksFine, trackFine, wellFormed}
+use Rattle.watch_rules.specs.Record.{viewOf, rowOf, tracksFine, trackFine, wellFormed}
 use Rattle.watch_rules.proofs.Laws.{byCase, clash, and-left, and-right, and-both, or-true-right, drop-none}
 use Rattle.watch_rules.proofs.Good.{levelsOk, Good, few-levels, ranged-levels}
 use Rattle.watch_rules.proofs.Encode.{track-levels, read-record}
 use Rattle.watch_rules.proofs.Calls.{formed-tracks, fine-at}
 use Rattle.watch_rules.proofs.Relist.{levels-fine}
-use Rattle.watch_rules.proofs.Swap.{Own, own-rest}
+use Rattle.watch_rules.proofs.Own.{Own, own-rest}
 use Rattle.watch_rules.proofs.Order.{lt-yes, lt-no, yes-lt}
 use Rattle.watch_rules.proofs.Verdict.{Counts, Strongest, Ranged, formed-ranged, target-some, target-none, yes-full, no-full, verdict-full, verdict-waits}
 use Rattle.watch.specs.declared.Pick.{Pick}

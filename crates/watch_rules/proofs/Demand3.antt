@@ -3,18 +3,22 @@
 -- order.
 use Prim.Native.Nat.{ℕ, _≤_}
 use mathlib.Core.Path.{_≡_, refl, sym, ap, ap₂, _∙_, subst, subst₂}
-use mathlib.Core.Bool.{false, cond, _&&_, _||_}
+use mathlib.Core.Bool.{Bool, true, false, cond, _&&_, _||_}
 use mathlib.Core.List.{List, [], _∷_, map}
+use mathlib.Core.Option.{some}
 use native.Mathlib.Omega.{arith}
 use lib.Dec.{eqb}
 use lib.ListN.{length, take, length-map}
+use Rattle.refusal.specs.declared.Refusal.{Refusal}
+use Rattle.refusal.specs.declared.Refusal.the-variants as why
 use Rattle.refusal.specs.declared.Reason.the-variants.{At}
-use Rattle.refusal.specs.Told.{Told, refused, gives, giving, unlessRefused}
+use Rattle.refusal.specs.Told.{Told, refused, gives, refusedFor, provided, giving, unlessRefused}
+use Rattle.readings_rules.specs.Channels.{channelInRange}
 use Rattle.readings_rules.specs.Burst.{BurstResult, heard, missed, burstOf}
 use Rattle.watch_rules.specs.declared.Watch.{Watch}
 use Rattle.watch_rules.specs.Lists.{mem, is, padTo}
 use Rattle.watch_rules.specs.Limits.{room}
-use Rattle.watch_rules.specs.Told.{Call, start, newList, move, file, ask, verdict, Called, Given, accepted}
+use Rattle.watch_rules.specs.Told.{Call, start, newBeam, file, ask, verdict, Called, Given, accepted}
 use Rattle.watch_rules.specs.Rules.{View, watched, serves, unlessFaulty, allowed, answer, full, counts, target}
 use Rattle.watch_rules.specs.Refusals.{Faulty, tooLong}
 use Rattle.watch_rules.specs.Plain.{Plain, idle, underWatch, seen, afterFile, change, next, answers, after}
@@ -45,8 +49,7 @@ depth-filed p c (refused n) = refl
 
 pub depth-changed : (p : Plain) (k : Call) → changedDepth (p .depth) k ≡ change p k .depth
 depth-changed p (start c d) = refl
-depth-changed p (newList l) = refl
-depth-changed p (move c) = refl
+depth-changed p (newBeam s l) = refl
 depth-changed p (file c b) = depth-filed p c (burstOf b)
 depth-changed p (ask c) = refl
 depth-changed p (verdict h) = refl
@@ -78,7 +81,7 @@ module _ (rs : List Row) (p : Plain) (k : Call) (s : Step rs p) where
           }
       go (refused n) e = record { held = rs; made = at e; kept = s }
 
-linked-next : {w : Watch} {p : Plain} (k : Call) → Linked w p → Linked (called w k .watch) (next p k)
+pub linked-next : {w : Watch} {p : Plain} (k : Call) → Linked w p → Linked (called w k .watch) (next p k)
 linked-next {p = p} k l = subst (λ (x : Watch). Linked (called x k .watch) (next p k)) (sym (l .made)) (linked-step (l .held) p k (l .kept))
 
 answered-linked : {w : Watch} {p : Plain} (k : Call) → Linked w p → called w k .answer ≡ answer (seen p) k
@@ -126,7 +129,7 @@ count-record d c rs =
     ∙ count-tracks c rs
 
 -- a channel that is not under watch has no levels
-unwatched-bare : (rs : List Row) (p : Plain) (c : ℕ) → Step rs p → watched (seen p) c ≡ false → seen p .levels c ≡ []
+pub unwatched-bare : (rs : List Row) (p : Plain) (c : ℕ) → Step rs p → watched (seen p) c ≡ false → seen p .levels c ≡ []
 unwatched-bare rs p c s e =
     sym (ap (λ (v : View). v .levels c) (s .same))
     ∙ levels-none c rs (sym (first-watched (p .depth) rs c) ∙ ap (λ (v : View). watched v c) (s .same) ∙ e)
@@ -139,7 +142,7 @@ rows-alone (r ∷ rs) e c = clash refl e
 alone : (rs : List Row) (p : Plain) → Step rs p → serves (p .serving) ≡ false → (c : ℕ) → p .neighbour c ≡ false
 alone rs p s = subst (λ (v : View). serves (v .serving) ≡ false → (c : ℕ) → v .neighbour c ≡ false) (s .same) (rows-alone rs)
 
-alike-linked : {w : Watch} {p : Plain} → Linked w p → Alike (ofRecord w) (ofPlain p)
+pub alike-linked : {w : Watch} {p : Plain} → Linked w p → Alike (ofRecord w) (ofPlain p)
 alike-linked {w} {p} l =
     record {
       depth = ap (λ (v : View). v .depth) (shows l);
@@ -173,30 +176,35 @@ data AllowedAlike : Told Unit → Told Unit → Type 0 where
   bothFaulty : (n m place other : ℕ) → OneOfFaults n → OneOfFaults m → AllowedAlike (refused (At n place)) (refused (At m other))
 
 -- two lists of which each is as the other but for its order: both are too long, or both have a first fault, or neither is faulty
-module _ (p : Plain) (a : Told Unit) (l m : List ℕ) (r : Reordered l m) where
-  back : Faulty p m → Faulty p l
-  back = faulty-reordered m l (λ (c : ℕ). sym (r c)) p
+module _ (s : ℕ) (a : Told Unit) (l m : List ℕ) (r : Reordered l m) where
+  back : Faulty s m → Faulty s l
+  back = faulty-reordered m l (λ (c : ℕ). sym (r c)) s
 
-  equal-ends : {b : Told Unit} → unlessFaulty (p .serving) l a ≡ b → unlessFaulty (p .serving) m a ≡ b
-      → AllowedAlike (unlessFaulty (p .serving) l a) (unlessFaulty (p .serving) m a)
-  equal-ends e f = subst (AllowedAlike (unlessFaulty (p .serving) l a)) (e ∙ sym f) (alikeAllowed (unlessFaulty (p .serving) l a))
+  equal-ends : {b : Told Unit} → unlessFaulty s l a ≡ b → unlessFaulty s m a ≡ b
+      → AllowedAlike (unlessFaulty s l a) (unlessFaulty s m a)
+  equal-ends e f = subst (AllowedAlike (unlessFaulty s l a)) (e ∙ sym f) (alikeAllowed (unlessFaulty s l a))
 
-  lists-alike : ListKind p l → ListKind p m → AllowedAlike (unlessFaulty (p .serving) l a) (unlessFaulty (p .serving) m a)
-  lists-alike (isLong h) (isLong k) = equal-ends (long-refused p l a h) (long-refused p m a k)
+  lists-alike : ListKind s l → ListKind s m → AllowedAlike (unlessFaulty s l a) (unlessFaulty s m a)
+  lists-alike (isLong h) (isLong k) = equal-ends (long-refused s l a h) (long-refused s m a k)
   lists-alike (isLong h) (hasFault place n k f) = absurd (let e = length-reordered l m r in omega arith)
-  lists-alike (isLong h) (isSound n) = absurd (n (faulty-reordered l m r p (tooLong h)))
+  lists-alike (isLong h) (isSound n) = absurd (n (faulty-reordered l m r s (tooLong h)))
   lists-alike (hasFault place n h f) (isLong k) = absurd (let e = length-reordered l m r in omega arith)
   lists-alike (hasFault place n h f) (hasFault other o k g) =
-      subst₂ AllowedAlike (sym (fault-refused p l a h f)) (sym (fault-refused p m a k g))
+      subst₂ AllowedAlike (sym (fault-refused s l a h f)) (sym (fault-refused s m a k g))
       (bothFaulty n o place other (one-of-faults n (fault-number (f .fault))) (one-of-faults o (fault-number (g .fault))))
-  lists-alike (hasFault place n h f) (isSound x) = absurd (x (faulty-reordered l m r p (fault-faulty p l (f .fault))))
+  lists-alike (hasFault place n h f) (isSound x) = absurd (x (faulty-reordered l m r s (fault-faulty s l (f .fault))))
   lists-alike (isSound x) (isLong k) = absurd (x (back (tooLong k)))
-  lists-alike (isSound x) (hasFault place n k f) = absurd (x (back (fault-faulty p m (f .fault))))
-  lists-alike (isSound x) (isSound y) = equal-ends (sound-allowed p l a x) (sound-allowed p m a y)
+  lists-alike (isSound x) (hasFault place n k f) = absurd (x (back (fault-faulty s m (f .fault))))
+  lists-alike (isSound x) (isSound y) = equal-ends (sound-allowed s l a x) (sound-allowed s m a y)
+
+-- behind a test that both pass or fail
+behind-test : (b : Bool) (r : Refusal) {x y : Told Unit} → AllowedAlike x y → AllowedAlike (provided b r x) (provided b r y)
+behind-test true r a = a
+behind-test false r a = alikeAllowed (refusedFor r)
 
 allowed-but : (p : Plain) {k j : Call} → ButForOrder k j → AllowedAlike (allowed (seen p) k) (allowed (seen p) j)
 allowed-but p (same k) = alikeAllowed (allowed (seen p) k)
-allowed-but p (lists l m r) = lists-alike p _ l m r (list-kind p l) (list-kind p m)
+allowed-but p (lists s l m r) = behind-test (channelInRange s) why.ChannelOutOfRange (lists-alike s _ l m r (list-kind s l) (list-kind s m))
 
 answer-alike : {a b : Told Unit} (g : Given) → AllowedAlike a b → ButForFault (giving a g) (giving b g)
 answer-alike g (alikeAllowed a) = sameAnswer (giving a g)
@@ -205,17 +213,17 @@ answer-alike g (bothFaulty n m place other x y) = faults n m place other x y
 answer-but : (p : Plain) {k j : Call} → ButForOrder k j → ButForFault (answer (seen p) k) (answer (seen p) j)
 unfolding answer
 answer-but p (same k) = sameAnswer (answer (seen p) k)
-answer-but p (lists l m r) = answer-alike accepted (allowed-but p (lists l m r))
+answer-but p (lists s l m r) = answer-alike accepted (allowed-but p (lists s l m r))
 
 change-but : (p : Plain) {k j : Call} → ButForOrder k j → change p k ≡ change p j
 change-but p (same k) = refl
-change-but p (lists l m r) =
+change-but p (lists s l m r) =
     λ i.
     record {
       depth = p .depth;
-      serving = p .serving;
+      serving = some s;
       neighbour = λ c. mem-reordered l m r c i;
-      levels = λ c. cond (underWatch p c && (is (p .serving) c || mem-reordered l m r c i)) (p .levels c) [];
+      levels = λ c. cond (underWatch p c && (eqb s c || mem-reordered l m r c i)) (p .levels c) [];
     }
 
 next-alike : {a b : Told Unit} (p q : Plain) → AllowedAlike a b → unlessRefused a p q ≡ unlessRefused b p q
@@ -234,7 +242,7 @@ after-but : (p : Plain) {ks js : List Call} → AllButForOrder ks js → after p
 after-but p end = refl
 after-but p (more {k} {j} {ks} {js} b bs) = after-but (next p k) bs ∙ ap (λ (q : Plain). after q js) (next-but p b)
 
-alike-both : {a b c : Compared} → Alike a b → Alike c b → Alike a c
+pub alike-both : {a b c : Compared} → Alike a b → Alike c b → Alike a c
 alike-both x y =
     record {
       depth = x .depth ∙ sym (y .depth);

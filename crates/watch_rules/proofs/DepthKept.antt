@@ -9,15 +9,16 @@ use borrow.Author.Tests.{eqb-true}
 use Rattle.refusal.specs.Told.{Told, refused, gives, unlessRefused}
 use Rattle.readings_rules.specs.Burst.{BurstResult, heard, missed, burstOf}
 use Rattle.watch_rules.specs.declared.Watch.{Watch}
-use Rattle.watch_rules.specs.Told.{Call, start, newList, move, file, ask, verdict}
+use Rattle.watch_rules.specs.Limits.{depthInRange}
+use Rattle.watch_rules.specs.Told.{Call, start, newBeam, file, ask, verdict}
 use Rattle.watch_rules.specs.Rules.{View, serves, allowed}
 use Rattle.watch_rules.specs.Plain.{Plain, idle, seen, afterFile, change, next, after}
 use Rattle.watch_rules.specs.Rows.{Row, first, changedDepth}
 use Rattle.watch_rules.specs.Record.{recordOf, fresh, called, afterFrom}
 use Rattle.watch_rules.specs.Claims.{DepthRule}
-use Rattle.watch_rules.proofs.Laws.{clash}
 use Rattle.watch_rules.proofs.Depth.{depth-low, depth-high}
 use Rattle.watch_rules.proofs.Good.{Good}
+use Rattle.watch_rules.proofs.Steps.{deep}
 use Rattle.watch_rules.proofs.PlainSteps.{plainRule}
 use Rattle.watch_rules.proofs.Sequence.{sequenceRule}
 use Rattle.watch_rules.proofs.Demand3.{Linked, linked, depth-changed}
@@ -31,8 +32,7 @@ by-refusal P (refused n) p q x y = x
 
 keeps : (k : Call) (n : ℕ) → ((c d : ℕ) → ¬ (k ≡ start c d)) → changedDepth n k ≡ n
 keeps (start c d) n other = absurd (other c d refl)
-keeps (newList l) n other = refl
-keeps (move c) n other = refl
+keeps (newBeam s l) n other = refl
 keeps (file c b) n other = refl
 keeps (ask c) n other = refl
 keeps (verdict h) n other = refl
@@ -48,8 +48,7 @@ serving-filed p c (refused n) e = e
 
 serving-changed : (p : Plain) (k : Call) → serves (p .serving) ≡ true → serves (change p k .serving) ≡ true
 serving-changed p (start c d) e = refl
-serving-changed p (newList l) e = e
-serving-changed p (move c) e = refl
+serving-changed p (newBeam s l) e = refl
 serving-changed p (file c b) e = serving-filed p c (burstOf b) e
 serving-changed p (ask c) e = e
 serving-changed p (verdict h) e = e
@@ -69,19 +68,15 @@ after-append p (k ∷ ks) js = after-append (next p k) ks js
 depth-of : {w : Watch} {p : Plain} → Linked w p → w .depth ≡ p .depth
 depth-of l = ap (λ (w : Watch). w .depth) (l .made)
 
--- good rows: with one the depth is in range, without one it is 0
-depth-rows : (d : ℕ) (rs : List Row) → Good d rs → serves (first rs) ≡ true → (5 ≤ d) × (d ≤ 31)
-depth-rows d [] g e = clash e refl
-depth-rows d (r ∷ rs) g e = (depth-low d (g .depth), depth-high d (g .depth))
-
+-- without rows the depth is 0
 none-fresh : (d : ℕ) (rs : List Row) → Good d rs → first rs ≡ none → recordOf d rs ≡ fresh
 none-fresh d [] g e = ap (λ (n : ℕ). recordOf n []) (eqb-true d 0 (g .depth))
 none-fresh d (r ∷ rs) g e = absurd (Option·some-ne-none (r .channel) e)
 
 in-range-while : {w : Watch} {p : Plain} → Linked w p → serves (p .serving) ≡ true → (5 ≤ w .depth) × (w .depth ≤ 31)
 in-range-while {p = p} l e =
-    subst (λ (n : ℕ). (5 ≤ n) × (n ≤ 31)) (sym (depth-of l))
-    (depth-rows (p .depth) (l .held) (l .kept .good) (ap (λ (v : View). serves (v .serving)) (l .kept .same) ∙ e))
+    let d : depthInRange (p .depth) ≡ true = deep (p .depth) (l .held) (l .kept .good) (ap (λ (v : View). serves (v .serving)) (l .kept .same) ∙ e) in
+    subst (λ (n : ℕ). (5 ≤ n) × (n ≤ 31)) (sym (depth-of l)) (depth-low (p .depth) d, depth-high (p .depth) d)
 
 -- the depth of the record after one call more is that of the plain watch
 depth-more : (ks : List Call) (k : Call) → called (afterFrom fresh ks) k .watch .depth ≡ next (after idle ks) k .depth

@@ -1,35 +1,32 @@
--- What is claimed of a faulty list: it gets one of 11 to 14 exactly where document 01 gave 5; at the first faulty place one number alone fits,
--- as the serving channel is in range; and nothing but the fault told depends on a list's order.
+-- What is claimed of a faulty list: it gets one of 11 to 14 exactly where document 01 gave 5, whatever the watch; at the first faulty place one
+-- number alone fits, as the serving channel is in range; and nothing but the fault told depends on a list's order.
 use Prim.Native.Nat.{ℕ, zero, suc, _≤_, _<_}
 use mathlib.Core.Path.{_≡_, refl, sym, ap, subst, subst₂, _∙_}
 use mathlib.Core.Logic.{_⊎_, inl, inr}
 use mathlib.Core.Bool.{Bool, true, false}
-use mathlib.Core.List.{List, [], _∷_}
+use mathlib.Core.List.{List}
 use mathlib.Core.Option.{some, Option·some-ne-none}
 use native.Mathlib.Omega.{arith}
-use lib.Dec.{eqb}
+use lib.Dec.{eqb, leb}
 use lib.ListN.{length, getElem?}
-use borrow.Author.Tests.{eq-eqb, eqb-true, eqb-false}
+use borrow.Author.Tests.{eqb-true, eqb-false, le-leb, leb-true}
 use Rattle.refusal.specs.declared.Refusal.the-variants as why
 use Rattle.refusal.specs.declared.Reason.the-variants.{Alone, At}
 use Rattle.refusal.specs.Number.{numberIn}
 use Rattle.refusal.specs.Told as refusal
 use Rattle.refusal.specs.Told.{Told, refused, gives, provided, giving}
-use Rattle.watch_rules.specs.Lists.{timesIn}
-use Rattle.watch_rules.specs.Told.{Call, newList, Given, accepted}
-use Rattle.watch_rules.specs.Rules.{View, serves, answer}
+use Rattle.refusal.proofs.Provided.{refuse-now, refuse-later}
+use Rattle.watch_rules.specs.Told.{newBeam, Given, accepted}
+use Rattle.watch_rules.specs.Rules.{serves, unlessFaulty, allowed, answer}
 use Rattle.watch_rules.specs.Plain.{Plain, idle, seen, after}
-use Rattle.watch_rules.specs.Rows.{Row, channels, first}
-use Rattle.watch_rules.specs.Record.{rows, fresh, afterFrom}
 use Rattle.watch_rules.specs.Refusals.{Faulty, tooLong, FirstFault, Refuses, listTooLong, listFaulty}
 use Rattle.watch_rules.specs.Claims.{OneOfFaults, ButForFault, sameAnswer, faults, AllButForFault, noMore, andMore, NothingElse, OfGroup, eleven, placed, ListFaultRule}
 use Rattle.watch_rules.proofs.Laws.{byCase}
 use Rattle.watch_rules.proofs.Faults.{fault-number, fault-faulty, no-other, ListKind, isLong, hasFault, isSound, list-kind, long-refused, fault-refused, sound-allowed}
 use Rattle.watch_rules.proofs.Calls.{refused-answer}
-use Rattle.watch_rules.proofs.Refusals.{place-row}
-use Rattle.watch_rules.proofs.Demand3.{one-of-faults, linked, shows, answered-next}
+use Rattle.watch_rules.proofs.Refusals.{to-row, from-row, place-row}
+use Rattle.watch_rules.proofs.Demand3.{one-of-faults, answered-next}
 use Rattle.watch_rules.proofs.Rules.{refusalRule}
-use Rattle.watch_rules.proofs.Follows.{itFollows}
 
 -- ---- the group
 
@@ -48,65 +45,81 @@ unfolding numberTold
 sound-number true = omega arith
 sound-number false = omega arith
 
-module _ (p : Plain) (l : List ℕ) where
+module _ (p : Plain) (s : ℕ) (l : List ℕ) where
   abbrev rest : Told Unit
   rest = provided (serves (p .serving)) why.NotWatched refusal.accepted
 
-  group-faulty : ListKind p l → OfGroup (answer (seen p) (newList l)) → Faulty p l
-  unfolding answer
-  group-faulty (isLong h) g = tooLong h
-  group-faulty (hasFault place n h f) g = fault-faulty p l (f .fault)
-  group-faulty (isSound n) g =
-      let least = group-number (subst (λ (a : Told Unit). OfGroup (giving a accepted)) (sound-allowed p l rest n) g) in
-      absurd (omega (arith, least, sound-number (serves (p .serving))))
+  abbrev told : Told Given
+  told = answer (seen p) (newBeam s l)
 
-  faulty-group : ListKind p l → Faulty p l → OfGroup (answer (seen p) (newList l))
-  faulty-group (isLong h) f = subst OfGroup (sym (refused-answer (seen p) (newList l) (Alone 11) (long-refused p l rest h))) eleven
-  faulty-group (hasFault place n h g) f =
-      subst OfGroup (sym (refused-answer (seen p) (newList l) (At n place) (fault-refused p l rest h g)))
-      (placed n place (one-of-faults n (fault-number (g .fault))))
-  faulty-group (isSound n) f = absurd (n f)
+  -- where the serving channel is above the range, 2 is told
+  group-ranged : OfGroup told → s ≤ 1087
+  unfolding numberTold
+  group-ranged g =
+      byCase (leb s 1087)
+      (λ b. leb-true s 1087 b)
+      (λ b. (let least = group-number (subst OfGroup (refused-answer (seen p) (newBeam s l) (Alone 2) (refuse-now why.ChannelOutOfRange _ b)) g) in
+      absurd (omega arith)))
 
--- ---- who serves is in range
+  module _ (ranged : s ≤ 1087) where
+    behind : {a : Told Unit} → unlessFaulty s l rest ≡ a → allowed (seen p) (newBeam s l) ≡ a
+    behind e = refuse-later why.ChannelOutOfRange (le-leb s 1087 ranged) e
 
-first-there : (rs : List Row) (c : ℕ) → first rs ≡ some c → 0 < timesIn c (channels rs)
-first-there [] c e = absurd (Option·some-ne-none c (sym e))
-first-there (r ∷ rs) c e =
-    let same : r .channel ≡ c = cc in
-    let one : timesIn c (channels (r ∷ rs)) ≡ suc (timesIn c (channels rs)) = rw (eq-eqb (r .channel) c same) in
-    omega arith
+    group-faulty : ListKind s l → OfGroup told → Faulty s l
+    unfolding answer
+    group-faulty (isLong h) g = tooLong h
+    group-faulty (hasFault place n h f) g = fault-faulty s l (f .fault)
+    group-faulty (isSound n) g =
+        let least = group-number (subst (λ (a : Told Unit). OfGroup (giving a accepted)) (behind (sound-allowed s l rest n)) g) in
+        absurd (omega (arith, least, sound-number (serves (p .serving))))
 
-serving-ranged : (ks : List Call) (c : ℕ) → after idle ks .serving ≡ some c → c ≤ 1087
-serving-ranged ks c e =
-    itFollows ks .inRange c (first-there (rows (afterFrom fresh ks)) c (ap (λ (v : View). v .serving) (shows (linked ks)) ∙ e))
+    faulty-group : ListKind s l → Faulty s l → OfGroup told
+    faulty-group (isLong h) f = subst OfGroup (sym (refused-answer (seen p) (newBeam s l) (Alone 11) (behind (long-refused s l rest h)))) eleven
+    faulty-group (hasFault place n h g) f =
+        subst OfGroup (sym (refused-answer (seen p) (newBeam s l) (At n place) (behind (fault-refused s l rest h g))))
+        (placed n place (one-of-faults n (fault-number (g .fault))))
+    faulty-group (isSound n) f = absurd (n f)
 
 -- the rows of a list
 
-long-row : {p : Plain} {l : List ℕ} → Refuses p (newList l) (Alone 11) → 6 < length l
-long-row (listTooLong l h) = h
+long-row : {p : Plain} {s : ℕ} {l : List ℕ} → Refuses p (newBeam s l) (Alone 11) → (s ≤ 1087) × (6 < length l)
+long-row (listTooLong s l i h) = (i, h)
 
-fault-row : {p : Plain} {l : List ℕ} {n place : ℕ} → Refuses p (newList l) (At n place) → (length l ≤ 6) × FirstFault p l place n
-fault-row (listFaulty l place n h f) = (h, f)
+fault-row : {p : Plain} {s : ℕ} {l : List ℕ} {n place : ℕ} → Refuses p (newBeam s l) (At n place)
+    → (s ≤ 1087) × (length l ≤ 6) × FirstFault s l place n
+fault-row (listFaulty s l place n i h f) = (i, h, f)
+
+-- a fault is the same whatever the watch
+same-fault : (p q : Plain) (s : ℕ) (l : List ℕ) {a : Told Given} → answer (seen p) (newBeam s l) ≡ a → OfGroup a → a ≡ answer (seen q) (newBeam s l)
+same-fault p q s l e eleven =
+    let h = long-row (to-row p (newBeam s l) (Alone 11) e) in
+    sym (from-row q (listTooLong s l (h .0) (h .1)))
+same-fault p q s l e (placed n place o) =
+    let h = fault-row (to-row p (newBeam s l) (At n place) e) in
+    sym (from-row q (listFaulty s l place n (h .0) (h .1) (h .2)))
 
 pub listFaultRule : ListFaultRule
 listFaultRule =
     record {
-      tooLong = λ ks l. (
-        λ e. long-row (refusalRule ks (newList l) (Alone 11) .0 e),
-        λ h. refusalRule ks (newList l) (Alone 11) .1 (listTooLong l h),
+      tooLong = λ ks s l. (
+        λ e. long-row (refusalRule ks (newBeam s l) (Alone 11) .0 e),
+        λ h. refusalRule ks (newBeam s l) (Alone 11) .1 (listTooLong s l (h .0) (h .1)),
       );
-      atPlace = λ ks l n place. (
-        λ e. fault-row (refusalRule ks (newList l) (At n place) .0 e),
-        λ h. refusalRule ks (newList l) (At n place) .1 (listFaulty l place n (h .0) (h .1)),
+      atPlace = λ ks s l n place. (
+        λ e. fault-row (refusalRule ks (newBeam s l) (At n place) .0 e),
+        λ h. refusalRule ks (newBeam s l) (At n place) .1 (listFaulty s l place n (h .0) (h .1) (h .2)),
       );
-      split = λ ks l.
+      split = λ ks s l.
           let p : Plain = after idle ks in
-          let e = answered-next ks (newList l) in (
-            λ g. group-faulty p l (list-kind p l) (subst OfGroup e g),
-            λ f. subst OfGroup (sym e) (faulty-group p l (list-kind p l) f),
+          let e = answered-next ks (newBeam s l) in (
+            λ g. (let i = group-ranged p s l (subst OfGroup e g) in (i, group-faulty p s l i (list-kind s l) (subst OfGroup e g))),
+            λ f. subst OfGroup (sym e) (faulty-group p s l (f .0) (list-kind s l) (f .1)),
           );
-      orderUnseen = λ ks l place n m f g. no-other (serving-ranged ks) f g;
-      listsOnly = λ ks k n place e. place-row (refusalRule ks k (At n place) .0 e) .1;
+      orderUnseen = λ s l place n m i f g. no-other i f g;
+      anyWatch = λ ks js s l g.
+          let e = answered-next ks (newBeam s l) in
+          e ∙ same-fault (after idle ks) (after idle js) s l refl (subst OfGroup e g) ∙ sym (answered-next js (newBeam s l));
+      beamsOnly = λ ks k n place e. place-row (refusalRule ks k (At n place) .0 e) .1;
     }
 
 -- ---- nothing but the fault told

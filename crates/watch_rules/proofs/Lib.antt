@@ -16,7 +16,7 @@ pub mod Refusals
 pub mod PlainSteps
 pub mod Sequence
 pub mod Relist
-pub mod Swap
+pub mod Own
 pub mod Steps
 pub mod Reorder
 pub mod Demand3
@@ -28,5 +28,7 @@ pub mod Unchanged
 pub mod Follows
 pub mod FaultClaims
 pub mod DepthKept
+pub mod Moved
+pub mod Beams
 pub mod Places
 pub mod Told

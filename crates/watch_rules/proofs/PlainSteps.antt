@@ -2,27 +2,25 @@
 -- leaves is its definition, whose tests are those words, decided.
 use Prim.Native.Nat.{ℕ}
 use mathlib.Core.Path.{_≡_, refl, sym, ap, _∙_, subst}
-use mathlib.Core.Logic.{_⊎_, inl, inr}
-use mathlib.Core.Bool.{Bool, true, not, cond, _&&_, _||_, or-true, and-false}
+use mathlib.Core.Bool.{Bool, cond, _&&_, _||_, and-false}
 use mathlib.Core.List.{List, []}
-use mathlib.Core.Option.{some}
 use lib.Dec.{eqb}
 use lib.IntN.{ℤ}
-use borrow.Author.Tests.{eqb-false, eq-eqb, ne-eqb}
+use borrow.Author.Tests.{eq-eqb, ne-eqb}
 use Rattle.refusal.specs.declared.Reason.{Reason}
 use Rattle.refusal.specs.Told.{Told, refused, gives, unlessRefused}
 use Rattle.refusal.proofs.OneToOne.{gives-refused}
 use Rattle.readings_rules.specs.declared.Burst.the-variants.{Missed}
 use Rattle.readings_rules.specs.Burst.{heard}
-use Rattle.watch_rules.specs.Lists.{mem, is}
-use Rattle.watch_rules.specs.Told.{Call, start, newList, move, file, ask, verdict}
+use Rattle.watch_rules.specs.Lists.{mem}
+use Rattle.watch_rules.specs.Told.{Call, start, newBeam, file, ask, verdict}
 use Rattle.watch_rules.specs.Rules.{allowed, answer}
-use Rattle.watch_rules.specs.Plain.{Plain, underWatch, seen, afterStart, afterNewList, afterMove, afterFile, change, next}
+use Rattle.watch_rules.specs.Plain.{Plain, underWatch, seen, afterStart, afterNewBeam, afterFile, change, next}
 use Rattle.watch_rules.specs.Refusals.{Accepted}
-use Rattle.watch_rules.specs.PlainSteps.{Started, Listed, Moved, Filed}
+use Rattle.watch_rules.specs.PlainSteps.{Started, BeamTaken, Filed}
 use Rattle.watch_rules.specs.Claims.{StepsOf, PlainRule}
-use Rattle.watch_rules.proofs.Laws.{byCase, and-left, and-right, and-both, not-is, or-true-right}
-use Rattle.watch_rules.proofs.Words.{mem-times, times-mem, is-some, some-is}
+use Rattle.watch_rules.proofs.Laws.{and-both}
+use Rattle.watch_rules.proofs.Words.{mem-times, times-mem}
 use Rattle.watch_rules.proofs.Calls.{granted-answer}
 use Rattle.watch_rules.proofs.Refusals.{yes-watched, no-watched, from-row, no-refusal}
 
@@ -32,47 +30,22 @@ started : (c d : ℕ) → Started c d (afterStart c d)
 started c d = record { depth = refl; serving = refl; neighbours = λ e. refl; levels = λ e. refl }
 
 module _ (p : Plain) where
-  listed : (l : List ℕ) → Listed p l (afterNewList p l)
-  listed l =
+  taken : (s : ℕ) (l : List ℕ) → BeamTaken p s l (afterNewBeam p s l)
+  taken s l =
       record {
         depth = refl;
         serving = refl;
         neighbours = λ c. (mem-times c l, times-mem c l);
-        kept = λ c w v. ap (chosen c) (and-both (yes-watched p c w) (yes-watched (afterNewList p l) c v));
-        others = λ c n. ap (λ (b : Bool). chosen c (b && (is (p .serving) c || mem c l))) (no-watched p c n);
+        kept = λ c w v. ap (chosen c) (and-both (yes-watched p c w) (yes-watched (afterNewBeam p s l) c v));
+        others = λ c n. ap (λ (b : Bool). chosen c (b && (eqb s c || mem c l))) (no-watched p c n);
         dropped =
             λ c n.
-            ap (λ (b : Bool). chosen c (underWatch p c && b)) (no-watched (afterNewList p l) c n)
+            ap (λ (b : Bool). chosen c (underWatch p c && b)) (no-watched (afterNewBeam p s l) c n)
             ∙ ap (chosen c) (and-false (underWatch p c));
       }
     where
       chosen : ℕ → Bool → List ℤ
       chosen c b = cond b (p .levels c) []
-
-  moved : (c : ℕ) → Moved p c (afterMove p c)
-  moved c =
-      record {
-        depth = refl;
-        serving = refl;
-        neighbours =
-            λ d. (
-              (λ e. byCase (is (p .serving) d)
-                  (λ s. inl (is-some (p .serving) d s))
-                  (λ s. (let m = or-true-right (is (p .serving) d) (p .neighbour d && not (eqb c d)) e s in
-                  inr (
-                    and-left (p .neighbour d) (not (eqb c d)) m,
-                    (λ z. eqb-false c d (not-is (eqb c d) (and-right (p .neighbour d) (not (eqb c d)) m)) (sym z)),
-                  )))),
-              back d,
-            );
-        levels = λ d. refl;
-      }
-    where
-      back : (d : ℕ) → (p .serving ≡ some d) ⊎ ((p .neighbour d ≡ true) × (¬ (d ≡ c))) → afterMove p c .neighbour d ≡ true
-      back d (inl s) = ap (λ (b : Bool). b || (p .neighbour d && not (eqb c d))) (some-is (p .serving) d s)
-      back d (inr m) =
-          ap (λ (b : Bool). is (p .serving) d || b) (and-both (m .0) (ap not (ne-eqb c d (λ z. m .1 (sym z)))))
-          ∙ or-true (is (p .serving) d)
 
   filed : (c : ℕ) (level quality : ℤ) → Filed p c level (afterFile p c (gives (heard level quality)))
   filed c level quality =
@@ -106,8 +79,7 @@ module _ (p : Plain) where
       record {
         refusing = λ k n row. (from-row p row, refused-next k n (from-row p row));
         starts = λ c d a. subst (Started c d) (accepted-next (start c d) a) (started c d);
-        lists = λ l a. subst (Listed p l) (accepted-next (newList l) a) (listed l);
-        moves = λ c a. subst (Moved p c) (accepted-next (move c) a) (moved c);
+        beams = λ s l a. subst (BeamTaken p s l) (accepted-next (newBeam s l) a) (taken s l);
         files =
             λ c b level quality a e.
             subst (Filed p c level) (ap (afterFile p c) (sym e) ∙ accepted-next (file c b) a) (filed c level quality);

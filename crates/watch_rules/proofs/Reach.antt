@@ -1,10 +1,9 @@
 -- A record is well formed exactly when calls leave it. One way: calls keep record and plain watch in step, and the record of good rows is
--- well formed. Other way: a start and a list give the channels, and each level is filed, oldest first, as the float that shows it.
+-- well formed. Other way: a start and a new beam give the channels, and each level is filed, oldest first, as the float that shows it.
 use Prim.Native.Nat.{ℕ, _≤_}
 use mathlib.Core.Path.{_≡_, refl, sym, ap, ap₂, _∙_, subst}
 use mathlib.Core.Bool.{Bool, true, false, not, _||_, or-true}
 use mathlib.Core.List.{List, [], _∷_, _++_, map, append-assoc, append-nil}
-use mathlib.Core.Option.{some}
 use native.Mathlib.Omega.{arith}
 use lib.Dec.{eqb, leb}
 use lib.IntN.{ℤ, pos}
@@ -26,13 +25,13 @@ use Rattle.watch_rules.specs.declared.Watch.{Watch}
 use Rattle.watch_rules.specs.Lists.{mem, distinct, every}
 use Rattle.readings_rules.specs.Channels.{channelHighest, channelInRange}
 use Rattle.watch_rules.specs.Limits.{listLimit, depthInRange}
-use Rattle.watch_rules.specs.Told.{Call, start, newList, file, Called}
+use Rattle.watch_rules.specs.Told.{Call, start, newBeam, file, Called}
 use Rattle.watch_rules.specs.Rules.{allowed}
 use Rattle.watch_rules.specs.Plain.{idle, after}
 use Rattle.watch_rules.specs.Rows.{Row, row, channels, levelsOf, shown, push, pushAt, changedRows, changedDepth, filedRows}
 use Rattle.watch_rules.specs.Record.{rows, recordOf, changedRecord, wellFormed, fresh, called, afterFrom}
 use Rattle.watch_rules.specs.Claims.{AllChannels, CanBeMade, AllCanBeMade, Reachable, WellFormedIsReachable}
-use Rattle.watch_rules.proofs.Laws.{clash, and-left, and-right, and-both, not-is, or-false-left, or-false-right, eqb-sym, cond-same, last-short}
+use Rattle.watch_rules.proofs.Laws.{clash, and-left, and-right, and-both, not-is, or-false-left, or-false-right, cond-same, last-short}
 use Rattle.watch_rules.proofs.Depth.{depth-high}
 use Rattle.watch_rules.proofs.Good.{levelsOk, rowFine, Good, good-fits, few-levels, ranged-levels}
 use Rattle.watch_rules.proofs.Encode.{rows-record, well-formed-record, read-record, Read}
@@ -94,7 +93,7 @@ file-made c x e = (channel-fits c e, (float-single x, float-single (pos 0)))
 
 -- ---- a channel's row among the others
 
-mem-middle : (c : ℕ) (l m : List ℕ) → mem c (l ++ c ∷ m) ≡ true
+pub mem-middle : (c : ℕ) (l m : List ℕ) → mem c (l ++ c ∷ m) ≡ true
 mem-middle c [] m = ap (λ (b : Bool). b || mem c m) (eq-eqb c c refl)
 mem-middle c (d ∷ l) m = ap (λ (b : Bool). eqb d c || b) (mem-middle c l m) ∙ or-true (eqb d c)
 
@@ -164,12 +163,7 @@ fill-rows d rs (q ∷ qs) e l =
     (fill-rows d (rs ++ q ∷ []) qs (and-right (rowFine d q) (every (rowFine d) qs) e)
     (subst (Left d) (sym (append-assoc rs (q ∷ []) (map bare qs))) one))
 
--- ---- a start and a list give the rows without levels
-
-none-is : (s : ℕ) (l : List ℕ) → mem s l ≡ false → every (λ c. not (eqb s c)) l ≡ true
-none-is s [] e = refl
-none-is s (c ∷ l) e =
-    and-both (ap not (eqb-sym s c ∙ or-false-left (eqb c s) (mem s l) e)) (none-is s l (or-false-right (eqb c s) (mem s l) e))
+-- ---- a start and a new beam give the rows without levels
 
 list-made : (l : List ℕ) → every channelInRange l ≡ true → AllChannels l
 list-made [] e = tt
@@ -196,13 +190,12 @@ bare-left d (r ∷ rs) g =
     let one : Left d (row c [] ∷ []) =
     extend 0 [] (start c d) none-left (channel-fits c ok, depth-fits d (g .depth))
     (refuse-later why.ParameterOutOfRange (g .depth) (refuse-later why.ChannelOutOfRange ok refl)) in
-    let away : mem c l ≡ false = not-is _ (and-left (not (mem c l)) (distinct l) (g .apart)) in
     let fits : leb (length l) listLimit ≡ true =
     le-leb (length l) listLimit (omega (arith, length-map rs (λ (q : Row). q .channel), good-fits (r ∷ rs) g)) in
-    let may : listSound (some c) l ≡ true =
-    and-both (and-both fits oks) (and-both (and-right (not (mem c l)) (distinct l) (g .apart)) (none-is c l away)) in
+    let may : listSound c l ≡ true = and-both (and-both fits oks) (g .apart) in
     subst (Left d) (ap₂ (λ (a : List ℤ) (b : List Row). row c a ∷ b) (cond-same (eqb c c) []) (bare-levels c rs))
-    (extend d (row c [] ∷ []) (newList l) one (list-made l oks) (sound-passes (some c) l may _))
+    (extend d (row c [] ∷ []) (newBeam c l) one (channel-fits c ok, list-made l oks)
+    (refuse-later why.ChannelOutOfRange ok (sound-passes c l may _)))
 
 good-left : (d : ℕ) (rs : List Row) → Good d rs → Left d rs
 good-left d rs g = fill-rows d [] rs (g .fine) (bare-left d rs g)

@@ -1,4 +1,4 @@
--- The refusals in document 01's words. The rule's tests are those words, decided: a test that fails names the row of the table, and a row
+-- The refusals in the words of documents 01 and 02. The rule's tests are those words, decided: a test that fails names the row of the table, and a row
 -- decides the tests.
 use Prim.Native.Nat.{ℕ, _≤_, _<_}
 use mathlib.Core.Path.{_≡_, refl, sym, ap, _∙_, subst}
@@ -10,7 +10,7 @@ use native.Mathlib.Omega.{arith}
 use lib.Dec.{leb}
 use lib.IntN.{ℤ, pos}
 use lib.Signed.{leZ, _<ℤ_, clashℤ}
-use borrow.Author.Tests.{le-leb, lt-leb, leb-false}
+use borrow.Author.Tests.{le-leb, lt-leb, leb-true, leb-false}
 use Rattle.refusal.specs.declared.Refusal.the-variants as why
 use Rattle.refusal.specs.declared.Reason.{Reason}
 use Rattle.refusal.specs.declared.Reason.the-variants.{Alone, At}
@@ -23,10 +23,10 @@ use Rattle.readings_rules.specs.Burst.{burstOf}
 use Rattle.readings_rules.proofs.Bursts.{burst-1}
 use Rattle.watch_rules.specs.Lists.{is}
 use Rattle.watch_rules.specs.Limits.{hysteresisInRange, depthInRange}
-use Rattle.watch_rules.specs.Told.{Call, start, newList, move, file, ask, verdict}
-use Rattle.watch_rules.specs.Rules.{View, watched, serves, allowed, answer, granted}
+use Rattle.watch_rules.specs.Told.{Call, start, newBeam, file, ask, verdict}
+use Rattle.watch_rules.specs.Rules.{View, watched, serves, unlessFaulty, allowed, answer, granted}
 use Rattle.watch_rules.specs.Plain.{Plain, seen}
-use Rattle.watch_rules.specs.Refusals.{Watched, Refuses, Accepted, hysteresisBelow, hysteresisAbove, depthBelow, depthAbove, startAbove, listTooLong, listFaulty, fileNotWatched, askNotWatched, moveNotListed, listIdle, verdictIdle, burstOutOfRange}
+use Rattle.watch_rules.specs.Refusals.{Watched, Refuses, Accepted, hysteresisBelow, hysteresisAbove, depthBelow, depthAbove, startAbove, beamAbove, listTooLong, listFaulty, fileNotWatched, askNotWatched, beamIdle, verdictIdle, burstOutOfRange}
 use Rattle.watch_rules.proofs.Laws.{byCase, clash, and-left, and-right, and-both, or-true-right}
 use Rattle.watch_rules.proofs.Depth.{depth-low, depth-high}
 use Rattle.watch_rules.proofs.Order.{le-yes, by-order}
@@ -79,10 +79,12 @@ module _ (p : Plain) where
   idle-row k e row =
       refused-by (serves (p .serving)) why.NotWatched accepted e (λ s q. known q (row (serves-none (p .serving) s))) (λ s q. absurd (gives-refused q))
 
-  list-row : (l : List ℕ) (n : Reason) → allowed (seen p) (newList l) ≡ refused n → ListKind p l → Refuses p (newList l) n
-  list-row l n e (isLong h) = known (same-reason (long-refused p l _ h) e) (listTooLong l h)
-  list-row l n e (hasFault place m h f) = known (same-reason (fault-refused p l _ h f) e) (listFaulty l place m h f)
-  list-row l n e (isSound x) = idle-row (newList l) (sym (sound-allowed p l _ x) ∙ e) (listIdle l x)
+  -- once the serving channel is in range
+  list-row : (s : ℕ) (l : List ℕ) (n : Reason) → s ≤ 1087
+      → unlessFaulty s l (provided (serves (p .serving)) why.NotWatched accepted) ≡ refused n → ListKind s l → Refuses p (newBeam s l) n
+  list-row s l n i e (isLong h) = known (same-reason (long-refused s l _ h) e) (listTooLong s l i h)
+  list-row s l n i e (hasFault place m h f) = known (same-reason (fault-refused s l _ h f) e) (listFaulty s l place m i h f)
+  list-row s l n i e (isSound x) = idle-row (newBeam s l) (sym (sound-allowed s l _ x) ∙ e) (beamIdle s l i x)
 
   row-of : (k : Call) (n : Reason) → allowed (seen p) k ≡ refused n → Refuses p k n
   row-of (start c d) n e =
@@ -93,9 +95,10 @@ module _ (p : Plain) where
       (λ b z. refused-by (channelInRange c) why.ChannelOutOfRange accepted z
       (λ a q. known q (startAbove c d (depth-low d b) (depth-high d b) (leb-false c 1087 a)))
       (λ a q. absurd (gives-refused q)))
-  row-of (newList l) n e = list-row l n e (list-kind p l)
-  row-of (move c) n e =
-      refused-by (p .neighbour c) why.NotWatched accepted e (λ b q. known q (moveNotListed c b)) (λ b q. absurd (gives-refused q))
+  row-of (newBeam s l) n e =
+      refused-by (channelInRange s) why.ChannelOutOfRange (unlessFaulty s l (provided (serves (p .serving)) why.NotWatched accepted)) e
+      (λ a q. known q (beamAbove s l (leb-false s 1087 a)))
+      (λ a z. list-row s l n (leb-true s 1087 a) z (list-kind s l))
   row-of (file c b) n e =
       refused-by (watched (seen p) c) why.NotWatched (acceptance (burstOf b)) e
       (λ x q. known q (fileNotWatched c b (λ w. clash (yes-watched p c w) x)))
@@ -126,12 +129,13 @@ module _ (p : Plain) where
   from-row-allowed (depthAbove c d l) = refuse-now why.ParameterOutOfRange _ (too-deep d l)
   from-row-allowed (startAbove c d a b l) =
       refuse-later why.ParameterOutOfRange (and-both (le-leb 5 d a) (le-leb d 31 b)) (refuse-now why.ChannelOutOfRange _ (lt-leb c 1087 l))
-  from-row-allowed (listTooLong l h) = long-refused p l _ h
-  from-row-allowed (listFaulty l place n h f) = fault-refused p l _ h f
+  from-row-allowed (beamAbove s l h) = refuse-now why.ChannelOutOfRange _ (lt-leb s 1087 h)
+  from-row-allowed (listTooLong s l i h) = refuse-later why.ChannelOutOfRange (le-leb s 1087 i) (long-refused s l _ h)
+  from-row-allowed (listFaulty s l place n i h f) = refuse-later why.ChannelOutOfRange (le-leb s 1087 i) (fault-refused s l _ h f)
   from-row-allowed (fileNotWatched c b n) = refuse-now why.NotWatched _ (no-watched p c n)
   from-row-allowed (askNotWatched c n) = refuse-now why.NotWatched _ (no-watched p c n)
-  from-row-allowed (moveNotListed c e) = refuse-now why.NotWatched _ e
-  from-row-allowed (listIdle l n e) = sound-allowed p l _ n ∙ refuse-now why.NotWatched _ (ap serves e)
+  from-row-allowed (beamIdle s l i n e) =
+      refuse-later why.ChannelOutOfRange (le-leb s 1087 i) (sound-allowed s l _ n ∙ refuse-now why.NotWatched _ (ap serves e))
   from-row-allowed (verdictIdle h a b e) =
       refuse-later why.ParameterOutOfRange (in-range h a b) (refuse-now why.NotWatched _ (ap serves e))
   from-row-allowed (burstOutOfRange c b w e) = refuse-later why.NotWatched (yes-watched p c w) (ap acceptance e)
@@ -168,18 +172,18 @@ row-number (hysteresisAbove h l) = (omega arith, λ e. omega arith)
 row-number (depthBelow c d l) = (omega arith, λ e. omega arith)
 row-number (depthAbove c d l) = (omega arith, λ e. omega arith)
 row-number (startAbove c d a b l) = (omega arith, λ e. omega arith)
-row-number (listTooLong l h) = (omega arith, λ e. omega arith)
-row-number (listFaulty l place n h f) = let k = fault-number (f .fault) .0 in (omega arith, λ e. omega arith)
+row-number (beamAbove s l h) = (omega arith, λ e. omega arith)
+row-number (listTooLong s l i h) = (omega arith, λ e. omega arith)
+row-number (listFaulty s l place n i h f) = let k = fault-number (f .fault) .0 in (omega arith, λ e. omega arith)
 row-number (fileNotWatched c b w) = (omega arith, λ e. omega arith)
 row-number (askNotWatched c w) = (omega arith, λ e. omega arith)
-row-number (moveNotListed c q) = (omega arith, λ e. omega arith)
-row-number (listIdle l f q) = (omega arith, λ e. omega arith)
+row-number (beamIdle s l i f q) = (omega arith, λ e. omega arith)
 row-number (verdictIdle h a b q) = (omega arith, λ e. omega arith)
 row-number (burstOutOfRange c b w q) = (omega arith, λ e. omega arith)
 
 -- a place is one of the six of a list
-pub place-row : {p : Plain} {k : Call} {n place : ℕ} → Refuses p k (At n place) → (place < 6) × ((l : List ℕ) × (k ≡ newList l))
-place-row (listFaulty l place n h f) = (omega (arith, h, fault-within (f .fault)), (l, refl))
+pub place-row : {p : Plain} {k : Call} {n place : ℕ} → Refuses p k (At n place) → (place < 6) × ((s : ℕ) × (l : List ℕ) × (k ≡ newBeam s l))
+place-row (listFaulty s l place n i h f) = (omega (arith, h, fault-within (f .fault)), (s, l, refl))
 
 -- the row of a call that is refused over what a watch shows
 abbrev shownBy : View → Plain
@@ -187,8 +191,7 @@ shownBy v = record { depth = 0; serving = v .serving; neighbour = v .neighbour; 
 
 view-row : (v : View) (k : Call) {n : Reason} → allowed v k ≡ refused n → Refuses (shownBy v) k n
 view-row v (start c d) e = row-of (shownBy v) (start c d) _ e
-view-row v (newList l) e = row-of (shownBy v) (newList l) _ e
-view-row v (move c) e = row-of (shownBy v) (move c) _ e
+view-row v (newBeam s l) e = row-of (shownBy v) (newBeam s l) _ e
 view-row v (file c b) e = row-of (shownBy v) (file c b) _ e
 view-row v (ask c) e = row-of (shownBy v) (ask c) _ e
 view-row v (verdict h) e = row-of (shownBy v) (verdict h) _ e
@@ -196,5 +199,5 @@ view-row v (verdict h) e = row-of (shownBy v) (verdict h) _ e
 pub told-number : (v : View) (k : Call) {n : Reason} → allowed v k ≡ refused n → 1 ≤ numberIn n
 told-number v k e = row-number (view-row v k e) .0
 
-pub told-place : (v : View) (k : Call) {n place : ℕ} → allowed v k ≡ refused (At n place) → (place < 6) × ((l : List ℕ) × (k ≡ newList l))
+pub told-place : (v : View) (k : Call) {n place : ℕ} → allowed v k ≡ refused (At n place) → (place < 6) × ((s : ℕ) × (l : List ℕ) × (k ≡ newBeam s l))
 told-place v k e = place-row (view-row v k e)

@@ -1,19 +1,19 @@
--- These channels, in this order, each with the levels that it had: what a new list and a move both make of rows. The channels are the
--- given ones, and a channel's levels are what they were where it is among them, and none where it is not.
+-- These channels, in this order, each with the levels that it had: what a new beam makes of rows. The channels are the given ones, and a channel's
+-- levels are what they were where it is among them, and none where it is not.
 use Prim.Native.Nat.{ℕ, suc, _≤_}
-use mathlib.Core.Path.{_≡_, refl, sym, ap, _∙_}
-use mathlib.Core.Bool.{Bool, true, false, not, cond, _&&_, _||_, and-true, or-true}
+use mathlib.Core.Path.{_≡_, refl, ap, _∙_}
+use mathlib.Core.Bool.{true, cond}
 use mathlib.Core.List.{List, [], _∷_, map}
 use native.Mathlib.Omega.{arith}
 use lib.Dec.{eqb, leb·zero}
 use lib.IntN.{ℤ}
 use lib.ListN.{length, length-map}
-use borrow.Author.Tests.{eqb-true, eqb-false, eq-eqb, ne-eqb, le-leb}
+use borrow.Author.Tests.{eqb-true, le-leb}
 use Rattle.watch_rules.specs.Lists.{mem, distinct, every}
 use Rattle.readings_rules.specs.Channels.{channelInRange}
 use Rattle.watch_rules.specs.Limits.{listLimit, depthInRange, room}
-use Rattle.watch_rules.specs.Rows.{Row, row, channels, levelsOf, rest, relisted, inPlaceOf}
-use Rattle.watch_rules.proofs.Laws.{byCase, clash, and-left, and-right, and-both, not-is, or-true-right, or-false-left, or-false-right, eqb-sym}
+use Rattle.watch_rules.specs.Rows.{Row, row, channels, levelsOf, rest, relisted}
+use Rattle.watch_rules.proofs.Laws.{byCase, and-left, and-right, and-both}
 use Rattle.watch_rules.proofs.Good.{levelsOk, rowFine, Good}
 
 -- ---- rows made from channels
@@ -68,54 +68,3 @@ module _ (s : ℕ) (l : List ℕ) (rs : List Row) where
         apart = ap distinct channels-relisted ∙ apart;
         fine = fine-made depth rs (s ∷ l) (g .fine) ranged;
       }
-
--- ---- one channel in the place of another
-
-module _ (c s : ℕ) where
-  pub length-inPlace : (l : List ℕ) → length (inPlaceOf c s l) ≡ length l
-  length-inPlace [] = refl
-  length-inPlace (x ∷ l) = byCase (eqb x c) (λ q. rw q) (λ q. rw q (ap suc (length-inPlace l)))
-
-  pub mem-inPlace : (d : ℕ) (l : List ℕ) → mem c l ≡ true → distinct l ≡ true
-      → mem d (inPlaceOf c s l) ≡ (eqb s d || (mem d l && not (eqb c d)))
-  mem-inPlace d [] h u = clash h refl
-  mem-inPlace d (x ∷ l) h u =
-      byCase (eqb x c)
-      (λ q. byCase (eqb x d)
-      (λ v.
-      let e : eqb c d ≡ true = eq-eqb c d (sym (eqb-true x c q) ∙ eqb-true x d v) in
-      let a : mem x l ≡ false = not-is _ (and-left (not (mem x l)) (distinct l) u) in
-      let b : mem d l ≡ false = ap (λ (n : ℕ). mem n l) (sym (eqb-true x d v)) ∙ a in
-      rw (q, e, v, b))
-      (λ v.
-      let e : eqb c d ≡ false = ne-eqb c d (λ z. eqb-false x d v (eqb-true x c q ∙ z)) in
-      rw (q, e, v) (ap (λ (b : Bool). eqb s d || b) (sym (and-true (mem d l))))))
-      (λ q.
-      let ih : mem d (inPlaceOf c s l) ≡ (eqb s d || (mem d l && not (eqb c d))) =
-      mem-inPlace d l (or-true-right (eqb x c) (mem c l) h q) (and-right (not (mem x l)) (distinct l) u) in
-      byCase (eqb x d)
-      (λ v.
-      let e : eqb c d ≡ false = ne-eqb c d (λ z. eqb-false x c q (eqb-true x d v ∙ sym z)) in
-      rw (q, e, v) (sym (or-true (eqb s d))))
-      (λ v. rw (q, v) ih))
-
-  pub every-inPlace : (f : ℕ → Bool) (l : List ℕ) → f s ≡ true → every f l ≡ true → every f (inPlaceOf c s l) ≡ true
-  every-inPlace f [] h e = e
-  every-inPlace f (x ∷ l) h e =
-      byCase (eqb x c)
-      (λ q. rw q (and-both h (and-right (f x) (every f l) e)))
-      (λ q. rw q (and-both (and-left (f x) (every f l) e) (every-inPlace f l h (and-right (f x) (every f l) e))))
-
-  pub distinct-inPlace : (l : List ℕ) → mem c l ≡ true → mem s l ≡ false → distinct l ≡ true → distinct (inPlaceOf c s l) ≡ true
-  distinct-inPlace [] h a u = u
-  distinct-inPlace (x ∷ l) h a u =
-      let t : distinct l ≡ true = and-right (not (mem x l)) (distinct l) u in
-      let m : mem s l ≡ false = or-false-right (eqb x s) (mem s l) a in
-      byCase (eqb x c)
-      (λ q. rw q (and-both (ap not m) t))
-      (λ q.
-      let i : mem c l ≡ true = or-true-right (eqb x c) (mem c l) h q in
-      let o : mem x l ≡ false = not-is _ (and-left (not (mem x l)) (distinct l) u) in
-      let e : eqb s x ≡ false = eqb-sym s x ∙ or-false-left (eqb x s) (mem s l) a in
-      let n : mem x (inPlaceOf c s l) ≡ false = mem-inPlace x l i t ∙ rw (e, o) in
-      rw q (and-both (ap not n) (distinct-inPlace l i m t)))

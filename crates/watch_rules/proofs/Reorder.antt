@@ -9,7 +9,6 @@ use lib.Dec.{eqb}
 use lib.ListN.{length}
 use borrow.Author.Tests.{eqb-true, eq-eqb}
 use Rattle.watch_rules.specs.Lists.{mem, timesIn}
-use Rattle.watch_rules.specs.Plain.{Plain}
 use Rattle.watch_rules.specs.Refusals.{Faulty, tooLong, above, repeated, servingIn}
 use Rattle.watch_rules.specs.Claims.{Reordered}
 use Rattle.watch_rules.proofs.Laws.{byCase, clash}
@@ -88,11 +87,11 @@ module _ (l m : List ℕ) (r : Reordered l m) where
   as-often : (c n : ℕ) → n < timesIn c l → n < timesIn c m
   as-often c n h = subst (λ (k : ℕ). n < k) (r c) h
 
-  pub faulty-reordered : (p : Plain) → Faulty p l → Faulty p m
-  faulty-reordered p (tooLong h) = tooLong (subst (λ (k : ℕ). 6 < k) length-reordered h)
-  faulty-reordered p (above c t h) = above c (as-often c 0 t) h
-  faulty-reordered p (repeated c t) = repeated c (as-often c 1 t)
-  faulty-reordered p (servingIn c t s) = servingIn c (as-often c 0 t) s
+  pub faulty-reordered : (s : ℕ) → Faulty s l → Faulty s m
+  faulty-reordered s (tooLong h) = tooLong (subst (λ (k : ℕ). 6 < k) length-reordered h)
+  faulty-reordered s (above c t h) = above c (as-often c 0 t) h
+  faulty-reordered s (repeated c t) = repeated c (as-often c 1 t)
+  faulty-reordered s (servingIn t) = servingIn (as-often s 0 t)
 
   still-in : (c : ℕ) → mem c l ≡ true → mem c m ≡ true
   still-in c e = times-mem c m (as-often c 0 (mem-times c l e))

@@ -1,6 +1,6 @@
 -- After every sequence of calls: the levels in the record are the last ones filed, and the next call is refused or accepted as the table says.
 use mathlib.Core.Path.{sym, ap, _∙_, subst}
-use Rattle.watch_rules.specs.Told.{start, newList, move, file}
+use Rattle.watch_rules.specs.Told.{start, newBeam, file}
 use Rattle.watch_rules.specs.Rules.{View}
 use Rattle.watch_rules.specs.Plain.{idle, after}
 use Rattle.watch_rules.specs.Claims.{LastOf, LevelsRule, RefusalRule, AcceptedRule}
@@ -24,7 +24,6 @@ pub acceptedRule : AcceptedRule
 acceptedRule =
     record {
       starts = λ ks c d n. answered-next ks (start c d) ∙ no-row (after idle ks) (start c d) n;
-      lists = λ ks l n. answered-next ks (newList l) ∙ no-row (after idle ks) (newList l) n;
-      moves = λ ks c n. answered-next ks (move c) ∙ no-row (after idle ks) (move c) n;
+      beams = λ ks s l n. answered-next ks (newBeam s l) ∙ no-row (after idle ks) (newBeam s l) n;
       files = λ ks c b n. answered-next ks (file c b) ∙ no-row (after idle ks) (file c b) n;
     }

@@ -30,11 +30,11 @@ use Rattle.watch_rules.proofs.Best.{IsBest, best-is}
 use Rattle.watch_rules.proofs.Good.{rowFine}
 use Rattle.watch_rules.proofs.Encode.{read-record}
 use Rattle.watch_rules.proofs.Calls.{granted-answer}
-use Rattle.watch_rules.proofs.Steps.{channels-fine, every-mem}
+use Rattle.watch_rules.proofs.Steps.{channels-fine}
 use Rattle.watch_rules.proofs.Demand3.{linked, shows, answered-next}
 use Rattle.watch_rules.proofs.Reach.{left-formed}
 use Rattle.watch_rules.proofs.Answers.{in-range, moved-told}
-use Rattle.watch_rules.proofs.Words.{is-some}
+use Rattle.watch_rules.proofs.Words.{mem-times, every-times, is-some}
 
 -- ---- who counts and who is the strongest, over what a watch shows; `claims` says it where s serves
 
@@ -276,7 +276,8 @@ module _ (w : Watch) (s : ℕ) (h : ℤ) (serving : viewOf w .serving ≡ some s
 -- the neighbours of good rows are in range, and so are those of a plain watch in step with them
 rows-ranged : (d : ℕ) (rs : List Row) → every (rowFine d) rs ≡ true → Ranged (shown d rs)
 rows-ranged d [] e c m = clash m refl
-rows-ranged d (r ∷ rs) e c m = every-mem channelInRange c (channels rs) (channels-fine d rs (and-right (rowFine d r) (every (rowFine d) rs) e)) m
+rows-ranged d (r ∷ rs) e c m =
+    every-times channelInRange (channels rs) (channels-fine d rs (and-right (rowFine d r) (every (rowFine d) rs) e)) c (mem-times c (channels rs) m)
 
 pub formed-ranged : (w : Watch) → wellFormed w ≡ true → Ranged (viewOf w)
 formed-ranged w f = rows-ranged (w .depth) (rows w) (read-record w f .good .fine)

@@ -30,10 +30,10 @@ times-none c (d ∷ l) e = rw (or-false-left (eqb d c) (mem c l) e) (times-none 
 pub times-more : (c d : ℕ) (l : List ℕ) → timesIn c l ≤ timesIn c (d ∷ l)
 times-more c d l = byCase (eqb d c) (λ q. rw q (omega arith)) (λ q. rw q (omega arith))
 
-times-first : (c : ℕ) (l : List ℕ) → timesIn c (c ∷ l) ≡ suc (timesIn c l)
+pub times-first : (c : ℕ) (l : List ℕ) → timesIn c (c ∷ l) ≡ suc (timesIn c l)
 times-first c l = rw (eq-eqb c c refl)
 
-times-joined : (c : ℕ) (l m : List ℕ) → timesIn c (l ++ m) ≡ timesIn c l + timesIn c m
+pub times-joined : (c : ℕ) (l m : List ℕ) → timesIn c (l ++ m) ≡ timesIn c l + timesIn c m
 times-joined c [] m = omega arith
 times-joined c (d ∷ l) m =
     byCase (eqb d c) (λ q. rw q (omega (arith, times-joined c l m))) (λ q. rw q (times-joined c l m))

@@ -26,13 +26,13 @@ use Rattle.watch_rules.specs.declared.Track.{Track}
 use Rattle.watch_rules.specs.declared.Watch.{Watch}
 use Rattle.watch_rules.specs.declared.Answer.the-variants as says
 use Rattle.watch_rules.specs.Lists.{mem, timesIn, distinct, every, is, lastN, sum}
-use Rattle.watch_rules.specs.Told.{Call, start, newList, move, file, ask, verdict, Given, accepted, levels, wait, stay, moveTo, told, toldHanded}
+use Rattle.watch_rules.specs.Told.{Call, start, newBeam, file, ask, verdict, Given, accepted, levels, wait, stay, moveTo, told, toldHanded}
 use Rattle.watch_rules.specs.Rules.{answer, mean, full, counts, target}
 use Rattle.watch_rules.specs.Plain.{Plain, idle, seen, next, answers, after}
 use Rattle.watch_rules.specs.Rows.{channels, levelsOf, first, rest}
 use Rattle.watch_rules.specs.Record.{rows, viewOf, wellFormed, fresh, called, tested, answersFrom, afterFrom}
 use Rattle.watch_rules.specs.Refusals.{Watched, Faulty, Fault, FirstFault, Refuses, Accepted}
-use Rattle.watch_rules.specs.PlainSteps.{IsIdle, Started, Listed, Moved, Filed}
+use Rattle.watch_rules.specs.PlainSteps.{IsIdle, Started, BeamTaken, Filed}
 
 -- ---- demand 3: what is compared besides the answers
 
@@ -131,10 +131,10 @@ pub record Alike (a b : Compared) : Type 0 where
 abbrev pub Reordered : List ℕ → List ℕ → Type 0
 Reordered l m = (c : ℕ) → timesIn c l ≡ timesIn c m
 
--- two calls alike except for the order within their lists
+-- two calls alike except for the order within their lists: a new beam has the same serving channel in both
 pub data ButForOrder : Call → Call → Type 0 where
   same : (k : Call) → ButForOrder k k
-  lists : (l m : List ℕ) → Reordered l m → ButForOrder (newList l) (newList m)
+  lists : (s : ℕ) (l m : List ℕ) → Reordered l m → ButForOrder (newBeam s l) (newBeam s m)
 
 -- two sequences, call by call
 pub data AllButForOrder : List Call → List Call → Type 0 where
@@ -195,8 +195,7 @@ AllChannels (c ∷ cs) = Fits w16 c × AllChannels cs
 
 abbrev pub CanBeMade : Call → Type 0
 CanBeMade (start c d) = Fits w16 c × Fits w64 d
-CanBeMade (newList l) = AllChannels l
-CanBeMade (move c) = Fits w16 c
+CanBeMade (newBeam s l) = Fits w16 s × AllChannels l
 CanBeMade (file c b) = Fits w16 c × Single b
 CanBeMade (ask c) = Fits w16 c
 CanBeMade (verdict h) = SFits w32 h
@@ -247,13 +246,10 @@ pub record LeftAsItWas (w : Watch) : Type 0 where
 abbrev pub Unchanged : Type 0
 Unchanged = (w : Watch) → LeftAsItWas w
 
--- the list of the record, in its own order, which no answer shows. "New list: replaces the neighbours."; "the old serving channel takes its
--- place in the list": of every record, where the call is accepted
-pub record ListOrder (w : Watch) : Type 0 where
-  pub lists : (s : ℕ) (l m : List ℕ) → called w (newList m) .answer ≡ gives accepted → channels (rows w) ≡ s ∷ l
-      → channels (rows (called w (newList m) .watch)) ≡ s ∷ m
-  pub moves : (s c : ℕ) (l m : List ℕ) → called w (move c) .answer ≡ gives accepted → channels (rows w) ≡ s ∷ (l ++ c ∷ m)
-      → channels (rows (called w (move c) .watch)) ≡ c ∷ (l ++ s ∷ m)
+-- the list of the record, in its own order, which no answer shows: the new serving channel, then the list as it was given, of every record where
+-- the call is accepted
+abbrev pub ListOrder : Watch → Type 0
+ListOrder w = (s : ℕ) (l : List ℕ) → called w (newBeam s l) .answer ≡ gives accepted → channels (rows (called w (newBeam s l) .watch)) ≡ s ∷ l
 
 abbrev pub ListRule : Type 0
 ListRule = (w : Watch) → ListOrder w
@@ -277,8 +273,7 @@ pub record SequenceRule : Type 0 where
 pub record StepsOf (p : Plain) : Type 0 where
   pub refusing : (k : Call) (n : Reason) → Refuses p k n → (answer (seen p) k ≡ refused n) × (next p k ≡ p)
   pub starts : (c d : ℕ) → Accepted p (start c d) → Started c d (next p (start c d))
-  pub lists : (l : List ℕ) → Accepted p (newList l) → Listed p l (next p (newList l))
-  pub moves : (c : ℕ) → Accepted p (move c) → Moved p c (next p (move c))
+  pub beams : (s : ℕ) (l : List ℕ) → Accepted p (newBeam s l) → BeamTaken p s l (next p (newBeam s l))
   pub files : (c : ℕ) (b : Burst) (level quality : ℤ) → Accepted p (file c b) → burstOf b ≡ gives (heard level quality) → Filed p c level (next p (file c b))
   -- "Missed: no change. Ask, verdict: no change."
   pub misses : (c : ℕ) → next p (file c Missed) ≡ p
@@ -309,17 +304,21 @@ pub data OfGroup : Told Given → Type 0 where
   eleven : OfGroup (refused (Alone 11))
   placed : (n place : ℕ) → OneOfFaults n → OfGroup (refused (At n place))
 
--- "Split it": a list gets one of 11 to 14 exactly where document 01 gave 5, 11 exactly for over 6 channels, and a place exactly where it is the first
--- faulty one of a list that is not too long. At that place one number alone fits, in whichever order its faults are asked for: a serving channel is
--- in range, and a repeat of a faulty channel is told at the earlier place. No other call tells a place
+-- "E2's group judged against the new serving channel", after 2: a list gets one of 11 to 14 exactly where document 01 gave 5 with the new
+-- channel serving, 11 exactly for over 6 channels, and a place exactly where it is the first faulty one of a list that is not too long. At that
+-- place one number alone fits, in whichever order its faults are asked for: the serving channel is in range, and a repeat of a faulty channel is
+-- told at the earlier place. The watch has no part in it, idle or not. No other call tells a place
 pub record ListFaultRule : Type 0 where
-  pub split : (ks : List Call) (l : List ℕ) → OfGroup (called (afterFrom fresh ks) (newList l) .answer) ↔ Faulty (after idle ks) l
-  pub tooLong : (ks : List Call) (l : List ℕ) → (called (afterFrom fresh ks) (newList l) .answer ≡ refused (Alone 11)) ↔ (6 < length l)
-  pub atPlace : (ks : List Call) (l : List ℕ) (n place : ℕ) → (called (afterFrom fresh ks) (newList l) .answer ≡ refused (At n place))
-      ↔ ((length l ≤ 6) × FirstFault (after idle ks) l place n)
-  pub orderUnseen : (ks : List Call) (l : List ℕ) (place n m : ℕ) → FirstFault (after idle ks) l place n → Fault (after idle ks) l place m → m ≡ n
-  pub listsOnly : (ks : List Call) (k : Call) (n place : ℕ) → called (afterFrom fresh ks) k .answer ≡ refused (At n place)
-      → (l : List ℕ) × (k ≡ newList l)
+  pub split : (ks : List Call) (s : ℕ) (l : List ℕ) → OfGroup (called (afterFrom fresh ks) (newBeam s l) .answer) ↔ ((s ≤ 1087) × Faulty s l)
+  pub tooLong : (ks : List Call) (s : ℕ) (l : List ℕ) → (called (afterFrom fresh ks) (newBeam s l) .answer ≡ refused (Alone 11))
+      ↔ ((s ≤ 1087) × (6 < length l))
+  pub atPlace : (ks : List Call) (s : ℕ) (l : List ℕ) (n place : ℕ) → (called (afterFrom fresh ks) (newBeam s l) .answer ≡ refused (At n place))
+      ↔ ((s ≤ 1087) × (length l ≤ 6) × FirstFault s l place n)
+  pub orderUnseen : (s : ℕ) (l : List ℕ) (place n m : ℕ) → s ≤ 1087 → FirstFault s l place n → Fault s l place m → m ≡ n
+  pub anyWatch : (ks js : List Call) (s : ℕ) (l : List ℕ) → OfGroup (called (afterFrom fresh ks) (newBeam s l) .answer)
+      → called (afterFrom fresh ks) (newBeam s l) .answer ≡ called (afterFrom fresh js) (newBeam s l) .answer
+  pub beamsOnly : (ks : List Call) (k : Call) (n place : ℕ) → called (afterFrom fresh ks) k .answer ≡ refused (At n place)
+      → (s : ℕ) × (l : List ℕ) × (k ≡ newBeam s l)
 
 -- "The other calls answer that they are accepted.": where the table has no number
 abbrev pub Accepts : List Call → Call → Type 0
@@ -327,9 +326,48 @@ Accepts ks k = Accepted (after idle ks) k → called (afterFrom fresh ks) k .ans
 
 pub record AcceptedRule : Type 0 where
   pub starts : (ks : List Call) (c d : ℕ) → Accepts ks (start c d)
-  pub lists : (ks : List Call) (l : List ℕ) → Accepts ks (newList l)
-  pub moves : (ks : List Call) (c : ℕ) → Accepts ks (move c)
+  pub beams : (ks : List Call) (s : ℕ) (l : List ℕ) → Accepts ks (newBeam s l)
   pub files : (ks : List Call) (c : ℕ) (b : Burst) → Accepts ks (file c b)
+
+-- ---- the new beam, and the two calls of document 01 that it takes the place of
+
+-- "New list: replaces the neighbours. A channel watched before and after keeps its levels, whichever place it moves to. A dropped one loses
+-- them. A new one has none."
+pub record NeighboursReplaced (p : Plain) (l : List ℕ) (q : Plain) : Type 0 where
+  pub depth : q .depth ≡ p .depth
+  pub serving : q .serving ≡ p .serving
+  pub servingKeeps : (s : ℕ) → p .serving ≡ some s → q .levels s ≡ p .levels s
+  pub neighbours : (c : ℕ) → (q .neighbour c ≡ true) ↔ (0 < timesIn c l)
+  pub kept : (c : ℕ) → p .neighbour c ≡ true → 0 < timesIn c l → q .levels c ≡ p .levels c
+  pub dropped : (c : ℕ) → p .neighbour c ≡ true → timesIn c l ≡ 0 → q .levels c ≡ []
+  pub new : (c : ℕ) → p .neighbour c ≡ false → 0 < timesIn c l → q .levels c ≡ []
+
+-- "Move: the neighbour and the serving channel change roles. All levels stay."
+pub record RolesChanged (p : Plain) (c : ℕ) (q : Plain) : Type 0 where
+  pub depth : q .depth ≡ p .depth
+  pub serving : q .serving ≡ some c
+  pub neighbours : (d : ℕ) → (q .neighbour d ≡ true) ↔ ((p .serving ≡ some d) ⊎ ((p .neighbour d ≡ true) × (¬ (d ≡ c))))
+  pub levels : (d : ℕ) → q .levels d ≡ p .levels d
+
+-- a move by the new call: it is always accepted, and the two change roles
+pub record MoveTaken (ks : List Call) (c : ℕ) (l : List ℕ) : Type 0 where
+  pub answered : called (afterFrom fresh ks) (newBeam c l) .answer ≡ gives accepted
+  pub roles : RolesChanged (after idle ks) c (after idle (ks ++ newBeam c l ∷ []))
+
+-- after every sequence of calls. "The serving channel may be the old one, a neighbour or a stranger": the call is accepted where it is in range,
+-- the list has no fault and the watch is not idle, and nothing else is asked. With the serving channel as it was, an accepted call is what the
+-- new list was. With a neighbour, and in its place in the list "the old serving channel", it is what the move was. With the serving channel and
+-- the set of neighbours as they were, accepted or not, it changes nothing that is compared
+pub record BeamRule : Type 0 where
+  pub answered : (ks : List Call) (s : ℕ) (l : List ℕ) → (called (afterFrom fresh ks) (newBeam s l) .answer ≡ gives accepted)
+      ↔ ((s ≤ 1087) × (¬ (Faulty s l)) × (¬ (after idle ks .serving ≡ none)))
+  pub asList : (ks : List Call) (s : ℕ) (l : List ℕ) → after idle ks .serving ≡ some s
+      → called (afterFrom fresh ks) (newBeam s l) .answer ≡ gives accepted
+      → NeighboursReplaced (after idle ks) l (after idle (ks ++ newBeam s l ∷ []))
+  pub asMove : (ks : List Call) (s c : ℕ) (l m : List ℕ) → channels (rows (afterFrom fresh ks)) ≡ s ∷ (l ++ c ∷ m) → MoveTaken ks c (l ++ s ∷ m)
+  pub again : (ks : List Call) (s : ℕ) (l : List ℕ) → after idle ks .serving ≡ some s
+      → ((c : ℕ) → (after idle ks .neighbour c ≡ true) ↔ (0 < timesIn c l))
+      → Alike (ofRecord (called (afterFrom fresh ks) (newBeam s l) .watch)) (ofRecord (afterFrom fresh ks))
 
 -- "the largest whole number not above sum / count; 0 for a count of 0"
 pub record IsMean (l : List ℤ) (m : ℤ) : Type 0 where

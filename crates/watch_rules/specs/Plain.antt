@@ -1,7 +1,7 @@
--- Document 01, section The plain watch. It is fed the calls alone; it sees no answer and no record. Of a list it takes the set;
--- only the rule that refuses a list looks at places.
+-- Document 01, section The plain watch, with the new beam of document 02. It is fed the calls alone; it sees no answer and no record. Of a list it
+-- takes the set; only the rule that refuses a list looks at places.
 use Prim.Native.Nat.{ℕ}
-use mathlib.Core.Bool.{Bool, false, not, cond, _&&_, _||_}
+use mathlib.Core.Bool.{Bool, false, cond, _&&_, _||_}
 use mathlib.Core.List.{List, [], _∷_, _++_}
 use mathlib.Core.Option.{Option, none, some}
 use lib.Dec.{eqb}
@@ -9,7 +9,7 @@ use lib.IntN.{ℤ}
 use Rattle.refusal.specs.Told.{Told, refused, gives, unlessRefused}
 use Rattle.readings_rules.specs.Burst.{BurstResult, heard, missed, burstOf}
 use Rattle.watch_rules.specs.Lists.{mem, is, lastN}
-use Rattle.watch_rules.specs.Told.{Call, start, newList, move, file, ask, verdict, Given}
+use Rattle.watch_rules.specs.Told.{Call, start, newBeam, file, ask, verdict, Given}
 use Rattle.watch_rules.specs.Rules.{View, allowed, answer}
 
 -- "It holds a serving channel or none, a set of neighbours and, for each of these channels (the ones under watch), all levels filed
@@ -37,25 +37,16 @@ seen p = record { depth = p .depth; serving = p .serving; neighbour = p .neighbo
 abbrev pub afterStart : ℕ → ℕ → Plain
 afterStart c d = record { depth = d; serving = some c; neighbour = λ e. false; levels = λ e. [] }
 
--- "New list: the neighbours are the set of its channels. One under watch before keeps its levels; any other comes under watch now,
--- without levels. A dropped one's are gone." A channel is under watch afterwards where it serves or is in the list
-abbrev pub afterNewList : Plain → List ℕ → Plain
-afterNewList p l =
+-- "One call with a new serving channel and a list. Each channel watched before and after keeps its levels, in whichever role; the rest is as
+-- document 01 says for a new list": "the neighbours are the set of its channels. .. any other comes under watch now, without levels. A dropped
+-- one's are gone." A channel is under watch afterwards where it is the new serving channel or in the list
+abbrev pub afterNewBeam : Plain → ℕ → List ℕ → Plain
+afterNewBeam p s l =
     record {
       depth = p .depth;
-      serving = p .serving;
+      serving = some s;
       neighbour = λ c. mem c l;
-      levels = λ c. cond (underWatch p c && (is (p .serving) c || mem c l)) (p .levels c) [];
-    }
-
--- "Move: the neighbour and the serving channel change roles. All levels stay."
-abbrev pub afterMove : Plain → ℕ → Plain
-afterMove p c =
-    record {
-      depth = p .depth;
-      serving = some c;
-      neighbour = λ d. is (p .serving) d || (p .neighbour d && not (eqb c d));
-      levels = p .levels;
+      levels = λ c. cond (underWatch p c && (eqb s c || mem c l)) (p .levels c) [];
     }
 
 -- "File: a heard level's hundredths go to the end of that channel's levels. Missed: no change." (A burst whose floats are out of range is
@@ -74,8 +65,7 @@ afterFile p c (refused n) = p
 -- an accepted call. "Ask, verdict: no change."
 abbrev pub change : Plain → Call → Plain
 change p (start c d) = afterStart c d
-change p (newList l) = afterNewList p l
-change p (move c) = afterMove p c
+change p (newBeam s l) = afterNewBeam p s l
 change p (file c b) = afterFile p c (burstOf b)
 change p (ask c) = p
 change p (verdict h) = p

@@ -1,8 +1,8 @@
--- Document 01, section The plain watch, in its own words: what it holds at the beginning and after each accepted call, without the
--- definitions of `Plain`. `Claims.PlainRule` says that its steps are these.
+-- Document 01, section The plain watch, and document 02's new beam, in their own words: what the plain watch holds at the beginning and after
+-- each accepted call, without the definitions of `Plain`. `Claims.PlainRule` says that its steps are these.
 use Prim.Native.Nat.{ℕ, _<_}
 use mathlib.Core.Path.{_≡_}
-use mathlib.Core.Logic.{_↔_, _⊎_}
+use mathlib.Core.Logic.{_↔_}
 use mathlib.Core.Bool.{true, false}
 use mathlib.Core.List.{List, [], _∷_, _++_}
 use mathlib.Core.Option.{none, some}
@@ -26,22 +26,16 @@ pub record Started (c n : ℕ) (q : Plain) : Type 0 where
   pub neighbours : (d : ℕ) → q .neighbour d ≡ false
   pub levels : (d : ℕ) → q .levels d ≡ []
 
--- "New list: the neighbours are the set of its channels. One under watch before keeps its levels; any other comes under watch now, without
--- levels. A dropped one's are gone." "Move and new list keep the depth."
-pub record Listed (p : Plain) (l : List ℕ) (q : Plain) : Type 0 where
+-- "One call with a new serving channel and a list. Each channel watched before and after keeps its levels, in whichever role; the rest is as
+-- document 01 says for a new list": "the neighbours are the set of its channels. .. any other comes under watch now, without levels. A dropped
+-- one's are gone." The depth "stays for its life"
+pub record BeamTaken (p : Plain) (s : ℕ) (l : List ℕ) (q : Plain) : Type 0 where
   pub depth : q .depth ≡ p .depth
-  pub serving : q .serving ≡ p .serving
+  pub serving : q .serving ≡ some s
   pub neighbours : (c : ℕ) → (q .neighbour c ≡ true) ↔ (0 < timesIn c l)
   pub kept : (c : ℕ) → Watched p c → Watched q c → q .levels c ≡ p .levels c
   pub others : (c : ℕ) → ¬ (Watched p c) → q .levels c ≡ []
   pub dropped : (c : ℕ) → ¬ (Watched q c) → q .levels c ≡ []
-
--- "Move: the neighbour and the serving channel change roles. All levels stay."
-pub record Moved (p : Plain) (c : ℕ) (q : Plain) : Type 0 where
-  pub depth : q .depth ≡ p .depth
-  pub serving : q .serving ≡ some c
-  pub neighbours : (d : ℕ) → (q .neighbour d ≡ true) ↔ ((p .serving ≡ some d) ⊎ ((p .neighbour d ≡ true) × (¬ (d ≡ c))))
-  pub levels : (d : ℕ) → q .levels d ≡ p .levels d
 
 -- "File: a heard level's hundredths go to the end of that channel's levels."
 pub record Filed (p : Plain) (c : ℕ) (level : ℤ) (q : Plain) : Type 0 where

@@ -9,7 +9,7 @@ use lib.IntN.{ℤ}
 use Rattle.refusal.specs.Told.{Told, refused, gives}
 use Rattle.readings_rules.specs.Burst.{BurstResult, heard, missed, burstOf}
 use Rattle.watch_rules.specs.Lists.{mem, lastN}
-use Rattle.watch_rules.specs.Told.{Call, start, newList, move, file, ask, verdict}
+use Rattle.watch_rules.specs.Told.{Call, start, newBeam, file, ask, verdict}
 use Rattle.watch_rules.specs.Rules.{View}
 
 -- a channel with its levels, oldest first
@@ -42,24 +42,9 @@ rest (r ∷ rs) = rs
 abbrev pub shown : ℕ → List Row → View
 shown d rs = record { depth = d; serving = first rs; neighbour = λ c. mem c (channels (rest rs)); levels = λ c. levelsOf c rs }
 
--- these channels, in this order, each with the levels that it had
+-- New beam: the serving channel and its list, in this order, each with the levels that it had, in whichever role
 abbrev pub relisted : ℕ → List ℕ → List Row → List Row
 relisted s l rs = map (λ c. row c (levelsOf c rs)) (s ∷ l)
-
--- New list: the serving channel stays, the list takes the neighbours' place
-abbrev pub listed : List ℕ → List Row → List Row
-listed l [] = []
-listed l (r ∷ rs) = relisted (r .channel) l (r ∷ rs)
-
--- d in the place of c
-abbrev pub inPlaceOf : ℕ → ℕ → List ℕ → List ℕ
-inPlaceOf c d [] = []
-inPlaceOf c d (x ∷ xs) = cond (eqb x c) (d ∷ xs) (x ∷ inPlaceOf c d xs)
-
--- Move: the neighbour c becomes serving, the old serving channel takes its place in the list
-abbrev pub moved : ℕ → List Row → List Row
-moved c [] = []
-moved c (r ∷ rs) = relisted c (inPlaceOf c (r .channel) (channels rs)) (r ∷ rs)
 
 -- File: a heard level is added as the newest; beyond the depth the oldest goes
 abbrev pub push : ℕ → ℤ → Row → Row
@@ -77,16 +62,14 @@ filedRows d c (refused n) rs = rs
 -- the rows after an accepted call, and the depth
 abbrev pub changedRows : ℕ → List Row → Call → List Row
 changedRows d rs (start c e) = row c [] ∷ []
-changedRows d rs (newList l) = listed l rs
-changedRows d rs (move c) = moved c rs
+changedRows d rs (newBeam s l) = relisted s l rs
 changedRows d rs (file c b) = filedRows d c (burstOf b) rs
 changedRows d rs (ask c) = rs
 changedRows d rs (verdict h) = rs
 
 abbrev pub changedDepth : ℕ → Call → ℕ
 changedDepth d (start c e) = e
-changedDepth d (newList l) = d
-changedDepth d (move c) = d
+changedDepth d (newBeam s l) = d
 changedDepth d (file c b) = d
 changedDepth d (ask c) = d
 changedDepth d (verdict h) = d

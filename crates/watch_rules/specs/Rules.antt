@@ -5,7 +5,7 @@ use Prim.Native.Nat.{ℕ, zero, suc}
 use mathlib.Core.Bool.{Bool, true, false, not, cond, _&&_, _||_}
 use mathlib.Core.List.{List, [], _∷_, _++_}
 use mathlib.Core.Option.{Option, none, some}
-use lib.Dec.{leb}
+use lib.Dec.{eqb, leb}
 use lib.IntN.{ℤ, pos, _+ℤ_, _*ℤ_}
 use lib.Signed.{ltZ, shrZ}
 use lib.ListN.{length}
@@ -16,7 +16,7 @@ use Rattle.readings_rules.specs.Burst.{burstOf}
 use Rattle.watch_rules.specs.Lists.{mem, is, sum}
 use Rattle.readings_rules.specs.Channels.{channelHighest, channelInRange}
 use Rattle.watch_rules.specs.Limits.{listLimit, hysteresisInRange, depthInRange}
-use Rattle.watch_rules.specs.Told.{Call, start, newList, move, file, ask, verdict, Given, accepted, levels, wait, stay, moveTo}
+use Rattle.watch_rules.specs.Told.{Call, start, newBeam, file, ask, verdict, Given, accepted, levels, wait, stay, moveTo}
 
 -- what a watch shows: the levels are a channel's last ones, as many as the depth or all if fewer, oldest first; a channel not under watch
 -- has none, and an idle watch has depth 0
@@ -37,32 +37,33 @@ serves (some s) = true
 
 -- ---- refusals
 
--- A list: "Places are looked at in rising order and the first faulty one is told; in one place the order is range, serving, repeat of an
--- earlier place." A place is counted from 0, so it is the number of channels that stand before it.
+-- A list, "judged against the new serving channel": "Places are looked at in rising order and the first faulty one is told; in one place the
+-- order is range, serving, repeat of an earlier place." A place is counted from 0, so it is the number of channels that stand before it.
 
 -- this answer where the channel behind these has no fault, else its fault and place
-abbrev pub unlessFaultyAt : Option ℕ → List ℕ → ℕ → Told Unit → Told Unit
+abbrev pub unlessFaultyAt : ℕ → List ℕ → ℕ → Told Unit → Told Unit
 unlessFaultyAt s earlier c answer =
     provided (channelInRange c) (ListedOutOfRange (length earlier))
-    (provided (not (is s c)) (ListedServing (length earlier))
+    (provided (not (eqb s c)) (ListedServing (length earlier))
     (provided (not (mem c earlier)) (ListedAgain (length earlier))
     answer))
 
 -- the same of the channels behind these, one place after the other
-abbrev pub unlessFaultyFrom : Option ℕ → List ℕ → List ℕ → Told Unit → Told Unit
+abbrev pub unlessFaultyFrom : ℕ → List ℕ → List ℕ → Told Unit → Told Unit
 unlessFaultyFrom s earlier [] answer = answer
 unlessFaultyFrom s earlier (c ∷ more) answer = unlessFaultyAt s earlier c (unlessFaultyFrom s (earlier ++ c ∷ []) more answer)
 
--- the same of a list, where s serves or nobody: "11 over 6 channels (no place)" comes first
-abbrev pub unlessFaulty : Option ℕ → List ℕ → Told Unit → Told Unit
+-- the same of the list of a serving channel: "11 over 6 channels (no place)" comes first
+abbrev pub unlessFaulty : ℕ → List ℕ → Told Unit → Told Unit
 unlessFaulty s l answer = provided (leb (length l) listLimit) ListTooLong (unlessFaultyFrom s [] l answer)
 
 -- whether a call is accepted, or why it is refused, in the order 7, 2, 11 to 14, 6, 1; 9 is a matter of the record alone. 1 is that of the
 -- burst: a float of it lies outside its range
 abbrev pub allowed : View → Call → Told Unit
 allowed v (start c d) = provided (depthInRange d) ParameterOutOfRange (provided (channelInRange c) ChannelOutOfRange refusal.accepted)
-allowed v (newList l) = unlessFaulty (v .serving) l (provided (serves (v .serving)) NotWatched refusal.accepted)
-allowed v (move c) = provided (v .neighbour c) NotWatched refusal.accepted
+allowed v (newBeam s l) =
+    provided (channelInRange s) ChannelOutOfRange
+    (unlessFaulty s l (provided (serves (v .serving)) NotWatched refusal.accepted))
 allowed v (file c b) = provided (watched v c) NotWatched (acceptance (burstOf b))
 allowed v (ask c) = provided (watched v c) NotWatched refusal.accepted
 allowed v (verdict h) = provided (hysteresisInRange h) ParameterOutOfRange (provided (serves (v .serving)) NotWatched refusal.accepted)
@@ -124,8 +125,7 @@ verdictOf v h = cond (full (v .depth) (servingLevels v)) (stayOrMove (target v h
 -- what an accepted call gives
 abbrev pub granted : View → Call → Given
 granted v (start c d) = accepted
-granted v (newList l) = accepted
-granted v (move c) = accepted
+granted v (newBeam s l) = accepted
 granted v (file c b) = accepted
 granted v (ask c) = levels (length (v .levels c)) (mean (v .levels c))
 granted v (verdict h) = verdictOf v h

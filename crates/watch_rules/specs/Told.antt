@@ -10,11 +10,10 @@ use Rattle.watch_rules.specs.declared.Answer.{Answer}
 use Rattle.watch_rules.specs.declared.Answer.the-variants.{Accepted, Refused, Levels, Wait, Stay, MoveTo}
 
 -- a call with its arguments other than the watch: channels, a depth, a list of channels, a burst with its floats, a
--- hysteresis with its sign
+-- hysteresis with its sign. A new beam has its serving channel and its list
 pub data Call : Type 0 where
   start : ℕ → ℕ → Call
-  newList : List ℕ → Call
-  move : ℕ → Call
+  newBeam : ℕ → List ℕ → Call
   file : ℕ → Burst → Call
   ask : ℕ → Call
   verdict : ℤ → Call

@@ -1,6 +1,6 @@
-// The neighbour watch: its record and what its calls answer. Document 01, sections The watch and The plain watch.
+// The neighbour watch: its record and what its calls answer. Document 01, sections The watch and The plain watch, with what document 02 changes.
 // The rules, the plain watch and demand 3 stand in specs/; the calls stand in the crate `watch`.
-ghost use Rattle.watch_rules.specs.Claims.{Demand3, NothingElse, WellFormedIsReachable, ItFollows, Unchanged, UnformedRule, ListRule, SequenceRule, PlainRule, LevelsRule, RefusalRule, ListFaultRule, AcceptedRule, AskRule, VerdictRule, PartRule, DepthRule, WordsRule, AnswersTold, AnswersDiffer};
+ghost use Rattle.watch_rules.specs.Claims.{Demand3, NothingElse, WellFormedIsReachable, ItFollows, Unchanged, UnformedRule, ListRule, SequenceRule, PlainRule, LevelsRule, RefusalRule, ListFaultRule, AcceptedRule, BeamRule, AskRule, VerdictRule, PartRule, DepthRule, WordsRule, AnswersTold, AnswersDiffer};
 use refusal::Refusal;
 
 // How many levels of a channel make a mean and a sum is the depth of a watch, given at its start: older levels go.
@@ -68,6 +68,7 @@ pub fn claimed()
     ensures refuses { λ _. ⌜ RefusalRule ⌝ }
     ensures faults { λ _. ⌜ ListFaultRule ⌝ }
     ensures accepts { λ _. ⌜ AcceptedRule ⌝ }
+    ensures beams { λ _. ⌜ BeamRule ⌝ }
     ensures ask { λ _. ⌜ AskRule ⌝ }
     ensures verdict { λ _. ⌜ VerdictRule ⌝ }
     ensures part { λ _. ⌜ PartRule ⌝ }

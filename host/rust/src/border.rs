@@ -65,7 +65,7 @@ pub struct ChoiceAnswer {
 #[repr(C)]
 pub struct WatchOutcome {
     pub refusal: u32,
-    /// Of the first faulty channel of a list, counted from 0.
+    /// Of the first faulty channel of a new beam's list, counted from 0.
     pub place: u32,
     pub watch: Watch,
 }
@@ -128,8 +128,7 @@ unsafe extern "C" {
     pub safe fn royukezan_watch_fresh() -> Watch;
     pub safe fn royukezan_watch_start_by_value(w: Watch, serving: u16, depth: usize) -> WatchOutcome;
     /// The pointer is aligned and not null, also where the length is 0, and that many channels can be read there.
-    pub fn royukezan_watch_new_list_by_value(w: Watch, list: *const u16, length: usize) -> WatchOutcome;
-    pub safe fn royukezan_watch_move_to_by_value(w: Watch, channel: u16) -> WatchOutcome;
+    pub fn royukezan_watch_new_beam_by_value(w: Watch, serving: u16, list: *const u16, length: usize) -> WatchOutcome;
     pub safe fn royukezan_watch_file_heard_by_value(w: Watch, channel: u16, level: f32, quality: f32) -> WatchOutcome;
     pub safe fn royukezan_watch_file_missed_by_value(w: Watch, channel: u16) -> WatchOutcome;
     pub safe fn royukezan_watch_ask_by_value(w: Watch, channel: u16) -> LevelsAnswer;

@@ -22,7 +22,7 @@ macro_rules! refusals {
                 #[doc = concat!($listed, ": a channel of a list ", $wrong, ".")]
                 $fault {
                     /// Where the channel stands in the list, counted from 0.
-                    place: u16,
+                    place: u32,
                 },
             )*
         }
@@ -37,7 +37,7 @@ macro_rules! refusals {
             }
 
             /// The place that is told with 12, 13 and 14: that of the first faulty channel of the list, counted from 0.
-            pub const fn place(self) -> Option<u16> {
+            pub const fn place(self) -> Option<u32> {
                 match self {
                     $(Refusal::$fault { place } => Some(place),)*
                     _ => None,
@@ -45,7 +45,7 @@ macro_rules! refusals {
             }
 
             /// The refusal of a number and, with 12, 13 and 14, a place; none where there is no such refusal.
-            pub const fn of(number: u32, place: Option<u16>) -> Option<Refusal> {
+            pub const fn of(number: u32, place: Option<u32>) -> Option<Refusal> {
                 match (number, place) {
                     $(($number, None) => Some(Refusal::$name),)*
                     $(($listed, Some(place)) => Some(Refusal::$fault { place }),)*
@@ -78,11 +78,11 @@ macro_rules! refusals {
 
 refusals! {
     1 ReadingOutOfRange "a level or quality, as a float or in hundredths, is outside its range",
-    2 ChannelOutOfRange "a swept channel outside 2 to 1,086; a start channel above 1,087",
+    2 ChannelOutOfRange "a swept channel outside 2 to 1,086; a start channel or the serving channel of a new beam \
+        above 1,087",
     3 ChannelVisited "a channel already visited in this sweep",
     4 SweepUnfinished "a choice over an unfinished sweep",
-    6 NotWatched "a filed or asked channel not watched; a move to a channel not in the list; \
-        new list or verdict on an idle watch",
+    6 NotWatched "a filed or asked channel not watched; new beam or verdict on an idle watch",
     7 ParameterOutOfRange "a margin, hysteresis or power parameter out of range; PANmin above PANmax; \
         a code above 63; a depth outside 5 to 31",
     8 OutcomesFaulty "outcome string not 1,088 long, or a byte above 5",
@@ -113,15 +113,11 @@ pub(crate) fn accepted_at(number: u32, place: u32) -> Result<(), Refusal> {
 }
 
 fn refused(number: u32, place: u32) -> Refusal {
-    let refusal = match u16::try_from(place) {
-        Ok(place) => Refusal::of(number, Some(place)),
-        Err(_) if place == NO_PLACE => Refusal::of(number, None),
-        Err(_) => None,
-    };
-    match refusal {
-        Some(refusal) => refusal,
-        None if place == NO_PLACE => foreign(format_args!("{number} without a place")),
-        None => foreign(format_args!("{number} at place {place}")),
+    let told = (place != NO_PLACE).then_some(place);
+    match (Refusal::of(number, told), told) {
+        (Some(refusal), _) => refusal,
+        (None, None) => foreign(format_args!("{number} without a place")),
+        (None, Some(place)) => foreign(format_args!("{number} at place {place}")),
     }
 }
 
@@ -146,10 +142,10 @@ mod tests {
         assert_eq!(accepted(9), Err(Refusal::RecordNotWellFormed));
         assert_eq!(accepted_at(6, NO_PLACE), Err(Refusal::NotWatched));
         assert_eq!(accepted_at(11, NO_PLACE), Err(Refusal::ListTooLong));
-        for place in 0..6 {
-            assert_eq!(accepted_at(12, place.into()), Err(Refusal::ListedOutOfRange { place }));
-            assert_eq!(accepted_at(13, place.into()), Err(Refusal::ListedAgain { place }));
-            assert_eq!(accepted_at(14, place.into()), Err(Refusal::ListedServing { place }));
+        for place in [0, 1, 2, 3, 4, 5, 65_535, 65_536, NO_PLACE - 1] {
+            assert_eq!(accepted_at(12, place), Err(Refusal::ListedOutOfRange { place }));
+            assert_eq!(accepted_at(13, place), Err(Refusal::ListedAgain { place }));
+            assert_eq!(accepted_at(14, place), Err(Refusal::ListedServing { place }));
         }
     }
 
@@ -163,7 +159,7 @@ mod tests {
 
     #[test]
     fn a_place_that_is_not_told_panics_and_so_does_one_that_is_missing() {
-        for (number, place) in [(0, 0), (6, 0), (9, 5), (11, 6), (12, 65_536), (13, NO_PLACE - 1)] {
+        for (number, place) in [(0, 0), (2, 0), (6, 0), (9, 5), (11, 6), (11, NO_PLACE - 1)] {
             assert!(catch_unwind(|| accepted_at(number, place)).is_err(), "{number} at {place}");
         }
         for number in 12..=14 {

@@ -78,22 +78,17 @@ impl Watch {
         self.keep(border::royukezan_watch_start_by_value(self.clone(), serving, depth))
     }
 
-    /// Replaces the neighbours, by up to 6 channels in any order. One watched before and after keeps its levels, and
-    /// the depth stays. Refusals 9, 11, then 12 to 14 with the place of the first faulty channel, 6.
+    /// A new beam: this channel serves now, and its neighbours are those of the list, up to 6 other channels in any
+    /// order. It may be the channel that serves already, a neighbour or a stranger. A channel watched before and after
+    /// keeps its levels, in whichever role, and the depth stays. Refusals 9, 2, 11, then 12 to 14 with the place of the
+    /// first faulty channel, 6.
     #[inline]
-    pub fn new_list(&mut self, list: &[u16]) -> Result<(), Refusal> {
+    pub fn new_beam(&mut self, serving: u16, list: &[u16]) -> Result<(), Refusal> {
         let (given, length) = (self.clone(), list.len());
         // SAFETY: the pointer of a slice is aligned and not null, of an empty one too, and its channels are only
         // read, during the call.
-        let outcome = unsafe { border::royukezan_watch_new_list_by_value(given, list.as_ptr(), length) };
+        let outcome = unsafe { border::royukezan_watch_new_beam_by_value(given, serving, list.as_ptr(), length) };
         self.keep(outcome)
-    }
-
-    /// Moves to a neighbour: it becomes serving, and the old serving channel takes its place in the list. Both keep
-    /// their levels, and the depth stays. Refusals 9, 6.
-    #[inline]
-    pub fn move_to(&mut self, channel: u16) -> Result<(), Refusal> {
-        self.keep(border::royukezan_watch_move_to_by_value(self.clone(), channel))
     }
 
     /// Files a burst's result. Refusals 9, 6, 1.

@@ -9,7 +9,7 @@ fn numbers_go_to_refusals_and_back() {
         let refusal = Refusal::of(number, None).unwrap();
         assert_eq!((refusal.number(), refusal.place()), (number, None));
     }
-    for (number, place) in [(12, 0), (12, 5), (13, 1), (14, 3), (14, u16::MAX)] {
+    for (number, place) in [(12, 0), (12, 5), (13, 1), (14, 3), (14, 65_536), (13, u32::MAX)] {
         let refusal = Refusal::of(number, Some(place)).unwrap();
         assert_eq!((refusal.number(), refusal.place()), (number, Some(place)));
     }

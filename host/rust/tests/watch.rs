@@ -11,7 +11,7 @@ const DEPTH: usize = 15;
 fn watching(serving: u16, list: &[u16], depth: usize) -> Watch {
     let mut watch = Watch::fresh();
     assert_eq!(watch.start(serving, depth), Ok(()));
-    assert_eq!(watch.new_list(list), Ok(()));
+    assert_eq!(watch.new_beam(serving, list), Ok(()));
     watch
 }
 
@@ -75,18 +75,60 @@ fn levels_stay_with_their_channel() {
     let mut watch = watching(10, &[20, 30, 40], DEPTH);
     file(&mut watch, 20, -90.0, 2);
     file(&mut watch, 40, -80.0, 3);
-    assert_eq!(watch.new_list(&[40, 50, 20]), Ok(()));
+    assert_eq!(watch.new_beam(10, &[40, 50, 20]), Ok(()));
     assert_eq!(watch.ask(20), Ok(Levels { count: 2, mean: -9_000 }));
     assert_eq!(watch.ask(40), Ok(Levels { count: 3, mean: -8_000 }));
     assert_eq!(watch.ask(50), Ok(Levels { count: 0, mean: 0 }));
     assert_eq!(watch.ask(30), Err(Refusal::NotWatched));
     // A dropped one has lost its levels when it comes again.
-    assert_eq!(watch.new_list(&[20]), Ok(()));
-    assert_eq!(watch.new_list(&[20, 40]), Ok(()));
+    assert_eq!(watch.new_beam(10, &[20]), Ok(()));
+    assert_eq!(watch.new_beam(10, &[20, 40]), Ok(()));
     assert_eq!(watch.ask(40), Ok(Levels { count: 0, mean: 0 }));
-    assert_eq!(watch.move_to(20), Ok(()));
+    assert_eq!(watch.new_beam(20, &[10, 40]), Ok(()));
     let told = made(&[track(20, &[-9_000, -9_000]), track(10, &[]), track(40, &[])], DEPTH);
     assert_eq!(watch, told);
+}
+
+/// The watch after a new beam that is accepted.
+fn after_beam(watch: &Watch, serving: u16, list: &[u16]) -> Watch {
+    let mut after = watch.clone();
+    assert_eq!(after.new_beam(serving, list), Ok(()), "{serving} {list:?}");
+    after
+}
+
+#[test]
+fn levels_stay_with_their_channel_in_whichever_role() {
+    let mut watch = watching(10, &[20, 30], DEPTH);
+    file(&mut watch, 10, -100.0, 3);
+    file(&mut watch, 20, -90.0, 2);
+    let (ten, twenty) = (track(10, &[-10_000; 3]), track(20, &[-9_000; 2]));
+    let (thirty, stranger) = (track(30, &[]), track(40, &[]));
+    for (serving, list, told) in [
+        (10, &[30, 20][..], &[ten, thirty, twenty][..]),
+        (20, &[10, 30], &[twenty, ten, thirty]),
+        (20, &[30, 40, 10], &[twenty, thirty, stranger, ten]),
+        (20, &[30], &[twenty, thirty]),
+        (40, &[10, 20], &[stranger, ten, twenty]),
+        (40, &[20], &[stranger, twenty]),
+        (40, &[], &[stranger]),
+        (10, &[], &[ten]),
+    ] {
+        assert_eq!(after_beam(&watch, serving, list), made(told, DEPTH), "{serving} {list:?}");
+    }
+}
+
+#[test]
+fn a_serving_channel_that_was_dropped_comes_back_without_levels() {
+    let mut watch = watching(10, &[20], DEPTH);
+    file(&mut watch, 10, -100.0, 15);
+    file(&mut watch, 20, -90.0, 15);
+    let neighbour_serves = after_beam(&watch, 20, &[]);
+    assert_eq!(neighbour_serves.ask(10), Err(Refusal::NotWatched));
+    let full = track(20, &[-9_000; 15]);
+    assert_eq!(after_beam(&neighbour_serves, 20, &[10]), made(&[full, track(10, &[])], DEPTH));
+    assert_eq!(after_beam(&neighbour_serves, 10, &[20]), made(&[track(10, &[]), full], DEPTH));
+    let stranger_serves = after_beam(&watch, 40, &[]);
+    assert_eq!(after_beam(&stranger_serves, 10, &[20]), made(&[track(10, &[]), track(20, &[])], DEPTH));
 }
 
 #[test]
@@ -133,11 +175,11 @@ fn levels_at_the_ends_of_the_range() {
 }
 
 #[test]
-fn a_list_and_a_move_keep_the_depth_and_a_start_gives_another() {
+fn a_new_beam_keeps_the_depth_and_a_start_gives_another() {
     let mut watch = watching(10, &[20, 30], 5);
     file(&mut watch, 20, -90.0, 6);
-    assert_eq!(watch.new_list(&[30, 20, 40]), Ok(()));
-    assert_eq!(watch.move_to(20), Ok(()));
+    assert_eq!(watch.new_beam(10, &[30, 20, 40]), Ok(()));
+    assert_eq!(watch.new_beam(20, &[30, 10, 40]), Ok(()));
     file(&mut watch, 20, -80.0, 1);
     let levels = [-9_000, -9_000, -9_000, -9_000, -8_000];
     assert_eq!(watch, made(&[track(20, &levels), track(30, &[]), track(10, &[]), track(40, &[])], 5));
@@ -170,7 +212,7 @@ fn refused(watch: &Watch, calls: &[(common::Call<Watch>, Refusal)]) {
 
 #[test]
 fn refusals_of_an_idle_watch() {
-    use Refusal::{ChannelOutOfRange, ListTooLong, ListedAgain, ListedOutOfRange, NotWatched, ParameterOutOfRange};
+    use Refusal::{ChannelOutOfRange, NotWatched, ParameterOutOfRange};
     refused(
         &Watch::fresh(),
         &[
@@ -180,15 +222,11 @@ fn refusals_of_an_idle_watch() {
             (|w| w.start(310, 32), ParameterOutOfRange),
             (|w| w.start(310, usize::MAX), ParameterOutOfRange),
             (|w| w.start(1_088, 4), ParameterOutOfRange),
-            // What is wrong with a list comes before that. Nobody serves, so that channel 0 is no fault.
-            (|w| w.new_list(&[1, 2, 3, 4, 5, 6, 7]), ListTooLong),
-            (|w| w.new_list(&[1_088]), ListedOutOfRange { place: 0 }),
-            (|w| w.new_list(&[1, 2, 65_535]), ListedOutOfRange { place: 2 }),
-            (|w| w.new_list(&[0, 0]), ListedAgain { place: 1 }),
-            (|w| w.new_list(&[]), NotWatched),
-            (|w| w.new_list(&[0]), NotWatched),
-            (|w| w.new_list(&[0, 1, 2, 3, 4, 5]), NotWatched),
-            (|w| w.move_to(0), NotWatched),
+            // Nobody serves, so that channel 0 is no fault in the list of another.
+            (|w| w.new_beam(0, &[]), NotWatched),
+            (|w| w.new_beam(1_087, &[]), NotWatched),
+            (|w| w.new_beam(10, &[0]), NotWatched),
+            (|w| w.new_beam(10, &[0, 1, 2, 3, 4, 5]), NotWatched),
             (|w| w.file_heard(0, f32::NAN, 0.0), NotWatched),
             (|w| w.file_missed(0), NotWatched),
             (|w| w.ask(0).map(drop), NotWatched),
@@ -217,8 +255,8 @@ fn refusals_come_in_their_order() {
             // Of 32 bits it would be 15.
             (|w| w.start(10, (1 << 32) + 15), ParameterOutOfRange),
             (|w| w.start(10, usize::MAX), ParameterOutOfRange),
-            (|w| w.move_to(10), NotWatched),
-            (|w| w.move_to(40), NotWatched),
+            (|w| w.new_beam(1_088, &[]), ChannelOutOfRange),
+            (|w| w.new_beam(u16::MAX, &[20, 30]), ChannelOutOfRange),
             (|w| w.file_heard(40, f32::NAN, f32::NAN), NotWatched),
             (|w| w.file_heard(20, -150.5, 10.0), ReadingOutOfRange),
             (|w| w.file_heard(10, -90.0, f32::NAN), ReadingOutOfRange),
@@ -230,11 +268,11 @@ fn refusals_come_in_their_order() {
     );
 }
 
-/// The refusal of this list, which leaves the watch as it was.
-fn refusal_of(watch: &Watch, list: &[u16]) -> Refusal {
+/// The refusal of this new beam, which leaves the watch as it was.
+fn refusal_of(watch: &Watch, serving: u16, list: &[u16]) -> Refusal {
     let mut given = watch.clone();
-    let refusal = given.new_list(list).unwrap_err();
-    assert_eq!(&given, watch, "{list:?}");
+    let refusal = given.new_beam(serving, list).unwrap_err();
+    assert_eq!(&given, watch, "{serving} {list:?}");
     refusal
 }
 
@@ -246,11 +284,29 @@ fn serving_10() -> Watch {
     watch
 }
 
+/// An idle watch, and such in which 10 serves, is a neighbour, and is a stranger: a beam is judged on each alike.
+fn watches() -> [Watch; 4] {
+    [Watch::fresh(), serving_10(), watching(20, &[30, 10], DEPTH), watching(40, &[50], DEPTH)]
+}
+
+#[test]
+fn a_serving_channel_above_the_range_is_told_before_any_fault_of_its_list() {
+    for watch in watches() {
+        for serving in [1_088, u16::MAX] {
+            for list in [&[][..], &[20], &[1, 2, 3, 4, 5, 6, 7], &[1_088], &[20, 20], &[1, serving]] {
+                let refusal = refusal_of(&watch, serving, list);
+                assert_eq!(refusal, Refusal::ChannelOutOfRange, "{serving} {list:?}");
+                assert_eq!((refusal.number(), refusal.place()), (2, None));
+            }
+        }
+    }
+}
+
 #[test]
 fn over_6_channels_are_told_without_a_place_and_before_any_fault() {
-    for watch in [Watch::fresh(), serving_10()] {
+    for watch in watches() {
         for list in [&[1, 2, 3, 4, 5, 6, 7][..], &[10; 7], &[1_088; 8], &[1; 300], &[20, 30, 20, 4, 5, 6, 1_088]] {
-            let refusal = refusal_of(&watch, list);
+            let refusal = refusal_of(&watch, 10, list);
             assert_eq!(refusal, Refusal::ListTooLong, "{list:?}");
             assert_eq!((refusal.number(), refusal.place()), (11, None));
         }
@@ -259,21 +315,19 @@ fn over_6_channels_are_told_without_a_place_and_before_any_fault() {
 
 #[test]
 fn each_fault_of_a_list_is_told_at_every_place() {
-    let (idle, watch) = (Watch::fresh(), serving_10());
-    for place in 0..6 {
-        let mut list = [1, 2, 3, 4, 5, 6];
-        for above in [1_088, u16::MAX] {
-            list[usize::from(place)] = above;
-            assert_eq!(refusal_of(&watch, &list), Refusal::ListedOutOfRange { place });
-            assert_eq!(refusal_of(&idle, &list), Refusal::ListedOutOfRange { place });
-        }
-        list[usize::from(place)] = 10;
-        assert_eq!(refusal_of(&watch, &list), Refusal::ListedServing { place });
-        assert_eq!(refusal_of(&idle, &list), Refusal::NotWatched);
-        for earlier in 0..usize::from(place) {
-            list[usize::from(place)] = list[earlier];
-            assert_eq!(refusal_of(&watch, &list), Refusal::ListedAgain { place });
-            assert_eq!(refusal_of(&idle, &list), Refusal::ListedAgain { place });
+    for watch in watches() {
+        for (at, place) in (0..6).zip(0..) {
+            let mut list = [1, 2, 3, 4, 5, 6];
+            for above in [1_088, u16::MAX] {
+                list[at] = above;
+                assert_eq!(refusal_of(&watch, 10, &list), Refusal::ListedOutOfRange { place });
+            }
+            list[at] = 10;
+            assert_eq!(refusal_of(&watch, 10, &list), Refusal::ListedServing { place });
+            for earlier in 0..at {
+                list[at] = list[earlier];
+                assert_eq!(refusal_of(&watch, 10, &list), Refusal::ListedAgain { place });
+            }
         }
     }
 }
@@ -292,17 +346,26 @@ fn the_first_faulty_channel_of_a_list_is_told() {
         (&[1, 2, 2, 1], 13, 2),
         (&[1, 2, 3, 4, 5, 10], 14, 5),
     ] {
-        let refusal = refusal_of(&serving_10(), list);
-        assert_eq!((refusal.number(), refusal.place()), (number, Some(place)), "{list:?}");
+        for watch in watches() {
+            let refusal = refusal_of(&watch, 10, list);
+            assert_eq!((refusal.number(), refusal.place()), (number, Some(place)), "{list:?}");
+        }
     }
 }
 
 #[test]
-fn a_list_is_judged_against_the_channel_that_serves_now() {
-    let mut watch = serving_10();
-    assert_eq!(watch.move_to(20), Ok(()));
-    assert_eq!(refusal_of(&watch, &[30, 20]), Refusal::ListedServing { place: 1 });
-    assert_eq!(watch.new_list(&[30, 10]), Ok(()));
+fn a_list_is_judged_against_the_serving_channel_that_it_comes_with() {
+    let (idle, watch) = (Watch::fresh(), serving_10());
+    for serving in [10, 20, 40] {
+        for list in [&[30, 50, serving][..], &[1, 2, serving, 1_088], &[1, 2, serving, 1]] {
+            assert_eq!(refusal_of(&watch, serving, list), Refusal::ListedServing { place: 2 });
+            assert_eq!(refusal_of(&idle, serving, list), Refusal::ListedServing { place: 2 });
+        }
+    }
+    for serving in [20, 40] {
+        assert_eq!(after_beam(&watch, serving, &[30, 10]).tracks[0].channel, serving);
+        assert_eq!(refusal_of(&watch, serving, &[10, 30, 10]), Refusal::ListedAgain { place: 2 });
+    }
 }
 
 const DAMAGES: [fn(&mut Watch); 32] = [
@@ -356,11 +419,11 @@ fn damaged_records_are_refused_first() {
             |w| w.start(1_088, 15),
             |w| w.start(1_088, 32),
             |w| w.start(10, 15),
-            |w| w.new_list(&[1_088]),
-            |w| w.new_list(&[1, 2, 3, 4, 5, 6, 7]),
-            |w| w.new_list(&[]),
-            |w| w.move_to(40),
-            |w| w.move_to(20),
+            |w| w.new_beam(1_088, &[1_088]),
+            |w| w.new_beam(10, &[1, 2, 3, 4, 5, 6, 7]),
+            |w| w.new_beam(10, &[1_088]),
+            |w| w.new_beam(40, &[]),
+            |w| w.new_beam(20, &[10, 30]),
             |w| w.file_heard(40, f32::NAN, f32::NAN),
             |w| w.file_heard(10, -90.0, 10.0),
             |w| w.file_missed(40),

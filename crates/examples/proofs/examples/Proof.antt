@@ -15,9 +15,13 @@ use Rattle.examples.proofs.examples.Statement.{statement}
 use Rattle.examples.proofs.examples.Tie as tie
 
 -- the rows of each part, from the last on
+beam-rows : AllHold (drop 32 table)
+unfolding ofBits ofFields converted within hundredthsOf nearestLower answer wellFormed called
+beam-rows = (refl, (refl, (refl, (refl, (refl, (refl, (refl, (refl, tt))))))))
+
 list-rows : AllHold (drop 28 table)
 unfolding wellFormed answer called
-list-rows = (refl, (refl, (refl, (refl, (refl, (refl, tt))))))
+list-rows = (refl, (refl, (refl, (refl, beam-rows))))
 
 depth-rows : AllHold (drop 20 table)
 unfolding ofBits ofFields converted within hundredthsOf nearestLower full counts best target answer wellFormed called

@@ -6,7 +6,7 @@ use lib.IntN.{pos}
 use mir.Syntax.{w32}
 use mir.ValLaws.{toZ-ofZ}
 use Rattle.readings_rules.specs.declared.Burst.the-variants.{Missed}
-use Rattle.watch_rules.specs.Told.{Call, Called, start, move, file, ask, verdict}
+use Rattle.watch_rules.specs.Told.{Call, Called, start, file, ask, verdict}
 use Rattle.watch_rules.specs.Record.{called}
 use Rattle.session_words.specs.Words.{wordsOf}
 use Rattle.session_calls.specs.Table.{rowAt}
@@ -62,7 +62,6 @@ watch-row-spec =
     (λ c κs. search needs) (λ c κs. search needs)
     (λ c κs. search needs) (λ c κs. search needs) (λ c. search needs) (λ c κs. search needs)
     (λ c κs. search needs)
-    (λ c κs. search needs) (λ c κs. search needs)
     (λ c κs. search needs)
     returns
     (λ c. let k = c .before .before in c .file2 .ensures ∙ ap (λ n. makes (k .before) (file n Missed)) (c .before .channel-at2 .ensures)
@@ -73,9 +72,7 @@ watch-row-spec =
     (λ c. let k = c .before .before in c .start .ensures ∙ ap (λ n. makes (k .before) (start n recordedDepth)) (c .before .channel-at4 .ensures)
     ∙ is (k .before) (k .match .keys5))
     returns-6
-    (λ c. c .new-list .ensures ∙ is (c .before .before) (c .before .match .keys7))
-    (λ c. let k = c .before .before in c .move-to .ensures ∙ ap (λ n. makes (k .before) (move n)) (c .before .channel-at6 .ensures)
-    ∙ is (k .before) (k .match .keys8))
+    (λ c. c .new-beam .ensures ∙ is (c .before .before) (c .before .match .keys7))
     (λ c.
     let a = c .before .before .before .args in
     c .verdict2 .ensures

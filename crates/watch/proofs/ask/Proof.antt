@@ -22,7 +22,7 @@ use Rattle.watch_rules.proofs.Depth.{depth-within}
 use Rattle.watch_rules.proofs.Encode.{fine-within, read-record, track-count, track-levels}
 use Rattle.watch_rules.proofs.Calls.{called-unformed, called-refused, called-granted, formed-depth}
 use Rattle.watch_record.specs.Code.{nothing, back}
-use Rattle.watch_list.proofs.Watched.{found-place, found-below}
+use Rattle.watch_record.proofs.Watched.{found-place, found-below}
 use Rattle.watch.proofs.Found.{place-watched, place-unwatched, found-fine, found-levels}
 use Rattle.watch.proofs.ask.Statement.{statement}
 use Rattle.watch.proofs.ask.Tie as tie

@@ -28,7 +28,7 @@ use Rattle.watch_rules.proofs.Depth.{depth-used}
 use Rattle.watch_rules.proofs.Encode.{read-record}
 use Rattle.watch_rules.proofs.Calls.{called-unformed, called-refused, called-granted, formed-depth}
 use Rattle.watch_record.specs.Code.{nothing, back}
-use Rattle.watch_list.proofs.Watched.{found-place, found-below}
+use Rattle.watch_record.proofs.Watched.{found-place, found-below}
 use Rattle.watch.specs.Code.{withTrack}
 use Rattle.watch.proofs.Found.{place-watched, place-unwatched, found-fine}
 use Rattle.watch.proofs.Filed.{watch-pushed}

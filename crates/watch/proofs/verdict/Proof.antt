@@ -8,7 +8,6 @@ use borrow.Author.Tests.{not-true, not-false, leb-true}
 use lib.Dec.{T, leb}
 use lib.IntN.{ℤ, pos, negsuc, natAbs}
 use lib.Signed.{leZ, nonNeg}
-use lib.ListN.{getD}
 use mir.Syntax.{w32}
 use mir.Val.{toZ, ofZ}
 use mir.Facts.{toZ-ofZ}
@@ -18,15 +17,13 @@ use Rattle.refusal.proofs.Provided.{refuse-now, refuse-later}
 use Rattle.watch_rules.specs.declared.Watch.{Watch}
 use Rattle.watch_rules.specs.Limits.{hysteresisHighest, hysteresisInRange}
 use Rattle.watch_rules.specs.Told.{verdict}
-use Rattle.watch_rules.specs.Rules.{serves, verdictOf}
-use Rattle.watch_rules.specs.Rows.{first}
-use Rattle.watch_rules.specs.Record.{rows, viewOf, wellFormed, called}
+use Rattle.watch_rules.specs.Rules.{verdictOf}
+use Rattle.watch_rules.specs.Record.{viewOf, wellFormed, called}
 use Rattle.watch_rules.proofs.Laws.{clash, and-right}
 use Rattle.watch_rules.proofs.Encode.{read-record}
 use Rattle.watch_rules.proofs.Calls.{called-unformed, called-refused, called-granted}
-use Rattle.watch_record.specs.Code.{nothing, back}
-use Rattle.watch_list.specs.Code.{servingOf}
-use Rattle.watch_list.proofs.NewList.{serving-is, serving-none, serving-some}
+use Rattle.watch_record.specs.Code.{back}
+use Rattle.watch_record.proofs.Watched.{serving-none, serving-some}
 use Rattle.watch.proofs.verdict.Statement.{statement}
 use Rattle.watch.proofs.verdict.Tie as tie
 
@@ -56,13 +53,9 @@ entry c = c .before .before .before .before .before .before
 formed-there : (c : tie.Else3) → wellFormed (entry c .args .w) ≡ true
 formed-there c = formed (c .before .before .before .before)
 
-hysteresis-is : (c : tie.Else3) → (entry c .args .hysteresis ≡ pos (natAbs (entry c .args .hysteresis))) × (natAbs (entry c .args .hysteresis) ≤ hysteresisHighest)
+hysteresis-is : (c : tie.Else3)
+    → (entry c .args .hysteresis ≡ pos (natAbs (entry c .args .hysteresis))) × (natAbs (entry c .args .hysteresis) ≤ hysteresisHighest)
 hysteresis-is c = size (entry c .args .hysteresis) (in-range (c .before .before))
-
--- ---- who serves
-
-serving : (c : tie.Else1) → first (rows (c .before .before .args .w)) ≡ servingOf (c .before .before .args .w .watched) (getD (c .before .before .args .w .tracks) 0 nothing .channel)
-serving c = serving-is (c .before .before .args .w) (formed c)
 
 -- ---- what is granted
 
@@ -72,7 +65,7 @@ granted c =
     let a = entry c .args in
     called-granted (a .w) (verdict (a .hysteresis)) (formed-there c)
     (refuse-later ParameterOutOfRange (in-range (c .before .before))
-    (refuse-later NotWatched (ap serves (serving (c .before .before .before .before)) ∙ serving-some (a .w .watched) (getD (a .w .tracks) 0 nothing .channel) (c .if3 .left)) refl))
+    (refuse-later NotWatched (serving-some (a .w) (formed-there c) (c .if3 .left)) refl))
     ∙ ap (λ (w : Watch). back w (gives (verdictOf (viewOf (a .w)) (a .hysteresis)))) (read-record (a .w) (formed-there c) .back)
 
 -- ---- the needs
@@ -115,7 +108,7 @@ returns-3 c =
     c .refused3 .ensures
     ∙ sym (called-refused (a .w) (verdict (a .hysteresis)) (formed e1)
     (refuse-later ParameterOutOfRange (in-range e2)
-    (refuse-now NotWatched _ (ap serves (serving e1) ∙ serving-none (a .w .watched) (getD (a .w .tracks) 0 nothing .channel) (c .before .if3 .taken)))))
+    (refuse-now NotWatched _ (serving-none (a .w) (formed e1) (c .before .if3 .taken)))))
 
 cast-judged : tie.Need-cast-judged
 cast-judged c =

@@ -9,6 +9,7 @@ use Rattle.watch_rules.proofs.Follows.{itFollows, unformedRule}
 use Rattle.watch_rules.proofs.Places.{listRule}
 use Rattle.watch_rules.proofs.Sequence.{sequenceRule}
 use Rattle.watch_rules.proofs.PlainSteps.{plainRule}
+use Rattle.watch_rules.proofs.Beams.{beamRule}
 use Rattle.watch_rules.proofs.Verdict.{verdictRule, partRule}
 use Rattle.watch_rules.proofs.Mean.{askRule}
 use Rattle.watch_rules.proofs.DepthKept.{depthRule}
@@ -37,7 +38,34 @@ returns c = (
                   plainRule,
                   (
                     levelsRule,
-                    (refusalRule, (listFaultRule, (acceptedRule, (askRule, (verdictRule, (partRule, (depthRule, (wordsRule, (answersTold, answersDiffer))))))))),
+                    (
+                      refusalRule,
+                      (
+                        listFaultRule,
+                        (
+                          acceptedRule,
+                          (
+                            beamRule,
+                            (
+                              askRule,
+                              (
+                                verdictRule,
+                                (
+                                  partRule,
+                                  (
+                                    depthRule,
+                                    (
+                                      wordsRule,
+                                      (answersTold, answersDiffer),
+                                    ),
+                                  ),
+                                ),
+                              ),
+                            ),
+                          ),
+                        ),
+                      ),
+                    ),
                   ),
                 ),
               ),
