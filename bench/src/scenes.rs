@@ -192,6 +192,8 @@ impl Scene for Choices {
 
 /// What is called on a watch.
 pub enum OnWatch {
+    /// The serving channel, then its list.
+    NewBeam(Vec<[u16; 7]>),
     File(Vec<(u16, Burst)>),
     Ask(Vec<u16>),
     Verdict(Vec<i32>),
@@ -209,21 +211,36 @@ const WATCH_CALLS: usize = 5_000;
 const WARM_UP: usize = 210;
 pub const DEPTH: usize = 15;
 
+/// The channels of the watch.
+const SEVEN: [u16; 7] = [100, 200, 300, 400, 500, 600, 700];
+
 /// One of the seven channels.
 fn watched_channel(dice: &Dice) -> u16 {
-    dice.one_of(&[100, 200, 300, 400, 500, 600, 700])
+    dice.one_of(&SEVEN)
+}
+
+/// One of the seven serves, and the others are its list: each keeps its levels.
+fn beam(dice: &Dice) -> [u16; 7] {
+    let mut channels = SEVEN;
+    channels.rotate_left(dice.below(7) as usize);
+    channels
 }
 
 impl Watched {
     fn new(calls: OnWatch) -> Watched {
         let dice = scene_dice();
         let mut watch = Watch::fresh();
-        let _ = watch.start(100, DEPTH);
-        let _ = watch.new_beam(100, &[200, 300, 400, 500, 600, 700]);
+        let _ = watch.start(SEVEN[0], DEPTH);
+        let _ = watch.new_beam(SEVEN[0], &SEVEN[1..]);
         for _ in 0..WARM_UP {
             let _ = watch.file(watched_channel(&dice), likely(&dice));
         }
         Watched { watch, calls }
+    }
+
+    pub fn new_beam() -> Watched {
+        let dice = scene_dice();
+        Watched::new(OnWatch::NewBeam(prepared(WATCH_CALLS, || beam(&dice))))
     }
 
     pub fn file() -> Watched {
@@ -252,6 +269,9 @@ impl Scene for Watched {
 
     fn play<L: Library>(&self, watch: &mut L::Watch, mut tell: impl FnMut(u64)) {
         match &self.calls {
+            OnWatch::NewBeam(beams) => {
+                beams.iter().for_each(|beam| tell(told(L::new_beam(black_box(watch), beam[0], &beam[1..]))))
+            }
             OnWatch::File(bursts) => {
                 bursts.iter().for_each(|&(channel, burst)| tell(told(L::file(black_box(watch), channel, burst))))
             }

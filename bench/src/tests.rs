@@ -653,6 +653,11 @@ fn scenes_of_the_choice() {
 
 #[test]
 fn scenes_of_the_watch() {
+    let beams = Watched::new_beam();
+    assert_eq!(answers(&beams, 5_000), [().number(); 5_000]);
+    // Whoever serves at the end, each channel has the levels that it had.
+    let (before, after) = (beams.begin(), played::<Plain, _>(&beams).1);
+    assert!((100..=700).step_by(100).all(|channel| before.ask(channel) == after.ask(channel)));
     assert_eq!(answers(&Watched::file(), 5_000), [().number(); 5_000]);
     // Every channel has all its levels: their count in the upper half of the number.
     assert!(answers(&Watched::ask(), 5_000).iter().all(|answer| answer >> 32 == scenes::DEPTH as u64));

@@ -130,6 +130,7 @@ pub fn rows(compared: &mut Compared) -> Vec<Row> {
         Row::new(compared, "full sweep: 1,085 times next and file, then counts", sweep, FullSweep::new()),
         Row::new(compared, "choice, usual: nothing read yet", sweep, Choices::usual()),
         Row::new(compared, "choice, worst: all read, none suitable", sweep, Choices::worst()),
+        Row::new(compared, "watch: new beam, every channel staying", watch, Watched::new_beam()),
         Row::new(compared, "watch: file", watch, Watched::file()),
         Row::new(compared, "watch: ask", watch, Watched::ask()),
         Row::new(compared, "watch: verdict", watch, Watched::verdict()),

@@ -10,7 +10,7 @@ use native.Mathlib.Omega.{arith}
 use lib.Dec.{eqb, leb}
 use lib.IntN.{ℤ}
 use lib.ListN.{length}
-use borrow.Author.Tests.{leb-true, leb-false}
+use borrow.Author.Tests.{eqb-true, leb-true, leb-false}
 use Rattle.refusal.specs.declared.Reason.{Reason}
 use Rattle.refusal.specs.Told.{Told, refused, gives, unlessRefused}
 use Rattle.refusal.proofs.OneToOne.{gives-refused}
@@ -28,7 +28,7 @@ use Rattle.watch_rules.proofs.Laws.{byCase, clash, and-left, not-is, la
 use Rattle.watch_rules.proofs.Depth.{depth-low}
 use Rattle.watch_rules.proofs.Words.{mem-times, times-mem}
 use Rattle.watch_rules.proofs.Faults.{fault-faulty, ListKind, isLong, hasFault, isSound, list-kind}
-use Rattle.watch_rules.proofs.Refusals.{no-watched, from-row}
+use Rattle.watch_rules.proofs.Refusals.{watched-yes, yes-watched, no-watched, from-row}
 use Rattle.watch_rules.proofs.PlainSteps.{plainRule}
 use Rattle.watch_rules.proofs.Sequence.{sequenceRule}
 use Rattle.watch_rules.proofs.Steps.{Step, deep}
@@ -120,6 +120,36 @@ replaces ks s l e a =
         sound (after idle ks) s l a (list-kind s l) (servingIn (subst (λ (y : ℕ). 0 < timesIn y l) z h))
     unknown c n h (inr x) = clash x n
 
+-- ---- no channel dropped
+
+module _ (ks : List Call) (s : ℕ) (l : List ℕ) (a : answer (seen (after idle ks)) (newBeam s l) ≡ gives accepted) where
+  abbrev later : Plain
+  later = after idle (ks ++ newBeam s l ∷ [])
+
+  -- the serving channel and those of the list are under watch then
+  under-then : (c : ℕ) → 0 < timesIn c (s ∷ l) → Watched later c
+  under-then c h =
+      let t = beam-taken ks s l (no-row-fits (after idle ks) s l a) in
+      byCase (eqb s c)
+      (λ z. inl (t .serving ∙ ap {B = Option ℕ} some (eqb-true s c z)))
+      (λ z. inr (t .neighbours c .1 (rw z at h)))
+
+  -- the one that serves now
+  served : (o : Option ℕ) → ¬ (o ≡ none) → (c : ℕ) × (o ≡ some c)
+  served none n = absurd (n refl)
+  served (some c) n = (c, refl)
+
+  all-stay : ((c : ℕ) → Watched (after idle ks) c → 0 < timesIn c (s ∷ l)) → (c : ℕ) → later .levels c ≡ after idle ks .levels c
+  all-stay none-dropped c =
+      let p : Plain = after idle ks in
+      let t = beam-taken ks s l (no-row-fits p s l a) in
+      let o = served (p .serving) (runs p s l a) in
+      byCase (underWatch p c)
+      (λ u. (let w = watched-yes p c u in t .kept c w (under-then c (none-dropped c w))))
+      (λ u.
+      let n : ¬ (Watched p c) = λ w. clash (yes-watched p c w) u in
+      t .others c n ∙ sym (bare (linked ks .held) p (linked ks .kept) (o .0) (o .1) c n))
+
 -- ---- serving channel and neighbours as they were
 
 same-test : {a b : Bool} → (a ≡ true) ↔ (b ≡ true) → a ≡ b
@@ -179,6 +209,7 @@ beamRule =
                 roles-changed s c l m ks e (after idle (ks ++ newBeam c (l ++ s ∷ m) ∷ [])) (beam-taken ks c (l ++ s ∷ m) fits)
                 (bare (linked ks .held) p (linked ks .kept) s w);
           };
+      allStay = λ ks s l a. all-stay ks s l (sym (answered-next ks (newBeam s l)) ∙ a);
       again = λ ks s l e same.
           let p : Plain = after idle ks in
           let k = linked ks in

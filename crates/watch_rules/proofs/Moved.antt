@@ -1,5 +1,5 @@
--- A move by the new call: the neighbour c serves, and the old serving channel s stands in its place in the list. With c before it, the new list
--- has each channel as often as the old watch, so it has no fault, and every channel under watch stays so.
+-- A move by a new beam: the neighbour c serves, and the old serving channel s stands in its place in the list. With c before it, this list has
+-- each channel as often as the watch had it; so it has no fault, and every channel under watch stays so.
 use Prim.Native.Nat.{ℕ, suc, _+_, _≤_, _<_}
 use mathlib.Core.Path.{_≡_, sym, ap, _∙_, subst}
 use mathlib.Core.Logic.{_⊎_, inl, inr}

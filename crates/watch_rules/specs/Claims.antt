@@ -356,8 +356,9 @@ pub record MoveTaken (ks : List Call) (c : ℕ) (l : List ℕ) : Type 0 where
 
 -- after every sequence of calls. "The serving channel may be the old one, a neighbour or a stranger": the call is accepted where it is in range,
 -- the list has no fault and the watch is not idle, and nothing else is asked. With the serving channel as it was, an accepted call is what the
--- new list was. With a neighbour, and in its place in the list "the old serving channel", it is what the move was. With the serving channel and
--- the set of neighbours as they were, accepted or not, it changes nothing that is compared
+-- new list was. With a neighbour, and in its place in the list "the old serving channel", it is what the move was. Where no channel is dropped, all
+-- levels stay, whatever the roles. With the serving channel and the set of neighbours as they were, accepted or not, it changes nothing that is
+-- compared
 pub record BeamRule : Type 0 where
   pub answered : (ks : List Call) (s : ℕ) (l : List ℕ) → (called (afterFrom fresh ks) (newBeam s l) .answer ≡ gives accepted)
       ↔ ((s ≤ 1087) × (¬ (Faulty s l)) × (¬ (after idle ks .serving ≡ none)))
@@ -365,6 +366,8 @@ pub record BeamRule : Type 0 where
       → called (afterFrom fresh ks) (newBeam s l) .answer ≡ gives accepted
       → NeighboursReplaced (after idle ks) l (after idle (ks ++ newBeam s l ∷ []))
   pub asMove : (ks : List Call) (s c : ℕ) (l m : List ℕ) → channels (rows (afterFrom fresh ks)) ≡ s ∷ (l ++ c ∷ m) → MoveTaken ks c (l ++ s ∷ m)
+  pub allStay : (ks : List Call) (s : ℕ) (l : List ℕ) → called (afterFrom fresh ks) (newBeam s l) .answer ≡ gives accepted
+      → ((c : ℕ) → Watched (after idle ks) c → 0 < timesIn c (s ∷ l)) → (c : ℕ) → after idle (ks ++ newBeam s l ∷ []) .levels c ≡ after idle ks .levels c
   pub again : (ks : List Call) (s : ℕ) (l : List ℕ) → after idle ks .serving ≡ some s
       → ((c : ℕ) → (after idle ks .neighbour c ≡ true) ↔ (0 < timesIn c l))
       → Alike (ofRecord (called (afterFrom fresh ks) (newBeam s l) .watch)) (ofRecord (afterFrom fresh ks))

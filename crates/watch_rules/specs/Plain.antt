@@ -37,7 +37,7 @@ seen p = record { depth = p .depth; serving = p .serving; neighbour = p .neighbo
 abbrev pub afterStart : ℕ → ℕ → Plain
 afterStart c d = record { depth = d; serving = some c; neighbour = λ e. false; levels = λ e. [] }
 
--- "One call with a new serving channel and a list. Each channel watched before and after keeps its levels, in whichever role; the rest is as
+-- ".. one call with a new serving channel and a list. Each channel watched before and after keeps its levels, in whichever role; the rest is as
 -- document 01 says for a new list": "the neighbours are the set of its channels. .. any other comes under watch now, without levels. A dropped
 -- one's are gone." A channel is under watch afterwards where it is the new serving channel or in the list
 abbrev pub afterNewBeam : Plain → ℕ → List ℕ → Plain

@@ -26,7 +26,7 @@ pub record Started (c n : ℕ) (q : Plain) : Type 0 where
   pub neighbours : (d : ℕ) → q .neighbour d ≡ false
   pub levels : (d : ℕ) → q .levels d ≡ []
 
--- "One call with a new serving channel and a list. Each channel watched before and after keeps its levels, in whichever role; the rest is as
+-- ".. one call with a new serving channel and a list. Each channel watched before and after keeps its levels, in whichever role; the rest is as
 -- document 01 says for a new list": "the neighbours are the set of its channels. .. any other comes under watch now, without levels. A dropped
 -- one's are gone." The depth "stays for its life"
 pub record BeamTaken (p : Plain) (s : ℕ) (l : List ℕ) (q : Plain) : Type 0 where
