@@ -1,4 +1,6 @@
 // The choice of a beam over a finished sweep. Document 01, section The choice.
+#![tactic(auto)]
+
 ghost use Rattle.std.specs.Prelude.{◌≡◌, true, ◌<◌, take};
 ghost use Rattle.refusal.specs.Told.{gives, refused_for};
 ghost use Rattle.readings_rules.specs.Ranges.{level_in_range};

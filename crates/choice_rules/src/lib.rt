@@ -1,5 +1,7 @@
 // The choice of a beam: what it answers. Document 01, section The choice. The rules and what is claimed of them stand in specs/; the call
 // stands in the crate `choice`.
+#![tactic(auto)]
+
 ghost use Rattle.choice_rules.specs.Claims.{RefusalRule, SearchOrderRule, NearPartRule, TriedIsPlace};
 ghost use Rattle.choice_rules.specs.Claims.{NoBeamExactly, UnheardBytes, AnswersDiffer, AnswersTold};
 

@@ -37,7 +37,7 @@ implies_true : (b : Bool) → implies b true ≡ true
 implies_true true = refl
 implies_true false = refl
 
--- of threeHeard's levels
+-- of three_heard's levels
 three_keep : (P : ℕ → ℤ → Bool) → P 100 (minus 9000) ≡ true → P 200 (minus 9000) ≡ true → P 300 (minus 9300) ≡ true → ((c : ℕ) → P c (pos 0) ≡ true)
     → (c : ℕ) → P c (level_at three_heard c) ≡ true
 unfolding fresh_sweep three_heard

@@ -12,9 +12,9 @@ use Rattle.power_rules.specs.Calls.{stepped}
 use Rattle.examples.specs.Given.{minus, single, nothing_heard, three_heard, nothing_read, three_read, answer_after, serving, two_levels, two_channels, first_and_more, parameters, unequal_gains, at_start, par_of, pans_sent}
 
 -- a row: what the definitions give, and what the paper says
-infixl 70 ◌comesTo◌
+infixl 70 ◌comes_to◌
 pub data Row : Type 1 where
-  ◌comesTo◌ : {A : Type 0} → A → A → Row
+  ◌comes_to◌ : {A : Type 0} → A → A → Row
 
 abbrev pub table : List Row
 table =

@@ -1,4 +1,6 @@
 // Each answer of the library as a host finds it (the crate `host_rules` has the structs and the rule). The calls stand in the crate `royukezan`.
+#![tactic(auto)]
+
 ghost use Rattle.std.specs.Prelude.{◌≡◌};
 ghost use Rattle.refusal.specs.Number.{reason_of};
 ghost use Rattle.refusal.specs.Told.{told_outcome};
@@ -7,7 +9,7 @@ ghost use Rattle.sweep_rules.specs.Told.{told_next, told_numbers};
 ghost use Rattle.choice_rules.specs.Told.{told_choice};
 ghost use Rattle.watch_rules.specs.Told.{told, told_handed};
 ghost use Rattle.power_rules.specs.Told.{told_answer};
-ghost use Rattle.host_rules.specs.Answers.{refusal_number, place_in, refusal_place, hundredths_answer, float_answer, burst_answer, sweep_beside, next_answer, counts_answer, choice_answer, watch_outcome, levels_answer, verdict_answer, powerBeside, sent_answer, sentBeside};
+ghost use Rattle.host_rules.specs.Answers.{refusal_number, place_in, refusal_place, hundredths_answer, float_answer, burst_answer, sweep_beside, next_answer, counts_answer, choice_answer, watch_outcome, levels_answer, verdict_answer, power_beside, sent_answer, sent_beside};
 
 use choice_rules::{Choice, SweepChoice};
 pub use host_rules::{
@@ -280,7 +282,7 @@ pub fn verdict_answer(h: Handed) -> VerdictAnswer
 }
 
 pub fn power_outcome(h: power_rules::Handed) -> PowerOutcome
-    ensures { result ≡ powerBeside h.power (told_outcome h.answer) }
+    ensures { result ≡ power_beside h.power (told_outcome h.answer) }
 {
     let power = h.power;
     let answer = h.answer;
@@ -308,7 +310,7 @@ fn sent_answer(a: power_rules::Answer) -> SentAnswer
 }
 
 pub fn sent_outcome(h: Stepped) -> SentOutcome
-    ensures { result ≡ sentBeside h.power (told_answer h.answer) }
+    ensures { result ≡ sent_beside h.power (told_answer h.answer) }
 {
     let power = h.power;
     let answer = h.answer;

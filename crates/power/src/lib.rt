@@ -1,5 +1,7 @@
 // The calls of the power steps: the step here, by value and on a record that is lent; start and test passed on. Document 01, section Power
 // steps; source document 000, clause 5.4, items 1 to 5.2.
+#![tactic(auto)]
+
 ghost use Rattle.std.specs.Prelude.{◌≡◌, cond, ◌≤◌, min};
 ghost use Rattle.power_rules.specs.declared.Answer.TheVariants.{Send, Refused};
 ghost use Rattle.power_rules.specs.Constants.{numeric_highest, thousandths_highest};

@@ -1,6 +1,8 @@
 // The power record: a start, and whether one is well formed; and the ranges of the parameters and codes. Document 01, section Power steps;
 // source document 000, clause 5.4, item 1, and clause 11.1. The steps stand on this; users name `start` and `check` as `power::start` and
 // `power::check`.
+#![tactic(auto)]
+
 ghost use Rattle.std.specs.Prelude.{◌≡◌};
 ghost use Rattle.refusal.specs.Told.{told_outcome};
 ghost use Rattle.power_rules.specs.PowerSteps.{parameters_in_range, codes_in_range, well_formed, fresh_with};

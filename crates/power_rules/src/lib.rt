@@ -1,5 +1,7 @@
 // Power steps: the parameters, the record that a terminal keeps from one power control message to the next, and what the calls answer: the
 // two codes to send. Document 01, section Power steps. The rules and what is claimed of them stand in specs/; the calls stand in the crate `power`.
+#![tactic(auto)]
+
 ghost use Rattle.power_rules.specs.Claims.{StartsWellFormed, StaysWellFormed, RefusedKeepsRecord, TestKeepsRecord, SendsWithinLimits, RoundsDown, RefusalRule, StartRule, StepRule, AnswersTold, AnswersDiffer};
 
 use refusal::{Outcome, Refusal};

@@ -1,4 +1,6 @@
 // The calls on readings: levels, qualities and bursts to hundredths of a dB, and back to floats. Document 01, section Readings.
+#![tactic(auto)]
+
 ghost use Rattle.std.specs.Prelude.{◌≡◌, ◌*◌, ◌<◌, ◌^◌, T, nat_abs};
 ghost use Rattle.readings_rules.specs.Hundredths.{hundredths_of, converted, level_of, quality_of};
 ghost use Rattle.readings_rules.specs.Float.{shown, level_shown, quality_shown};

@@ -1,5 +1,7 @@
 // Readings of a modem: what one burst gave, as floats and in whole hundredths of a dB. Document 01, section Readings.
 // The rules and what is claimed of them stand in specs/; the calls stand in the crate `readings`.
+#![tactic(auto)]
+
 ghost use Rattle.readings_rules.specs.Claims.{RangeRule, RoundingRule, ConversionRule, ShownRule, ReadBack, BurstRule, BurstInRange};
 ghost use Rattle.readings_rules.specs.Claims.{AnswersTold, AnswersDiffer};
 

@@ -1,4 +1,6 @@
 // Document 01's table of refusals, with what document 02 adds: why a call is refused, and what crews and support are told of it.
+#![tactic(auto)]
+
 ghost use Rattle.std.specs.Prelude.{◌≡◌};
 ghost use Rattle.refusal.specs.Number.{reason_of, number_of};
 ghost use Rattle.refusal.specs.Claims.{ReasonsDiffer, OutcomesDiffer, NumbersRule, ToldRule, HandedRule};

@@ -1,5 +1,7 @@
 // Answers a session file (docs/session-format.md), read from standard input or from the file that the first argument names: each recorded
 // call is made again through the library, and its answer written to standard output.
+#![tactic(auto)]
+
 use libc::{STDIN_FILENO, STDOUT_FILENO};
 use session::Session;
 

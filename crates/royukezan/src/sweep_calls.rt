@@ -6,7 +6,7 @@ ghost use Rattle.sweep_rules.specs.Filing.{filing, checking};
 ghost use Rattle.sweep_rules.specs.Next.{next_told};
 ghost use Rattle.sweep_rules.specs.Counts.{counts_told};
 ghost use Rattle.choice_rules.specs.Choose.{choosing};
-ghost use Rattle.host_rules.specs.Answers.{refusal_number, sweepOutcome, next_answer, counts_answer, choice_answer};
+ghost use Rattle.host_rules.specs.Answers.{refusal_number, sweep_outcome, next_answer, counts_answer, choice_answer};
 
 use host_answers::{
     ChoiceAnswer, CountsAnswer, NextAnswer, SweepOutcome, choice_answer, counts_answer,
@@ -31,7 +31,7 @@ pub extern "C" fn royukezan_sweep_file_heard_by_value(
     level: f32,
     quality: f32,
 ) -> SweepOutcome
-    ensures { result ≡ sweepOutcome s (filing s channel (Heard (record { level = level; quality = quality }))) }
+    ensures { result ≡ sweep_outcome s (filing s channel (Heard (record { level = level; quality = quality }))) }
 {
     sweep_outcome(sweep::file(s, channel, Burst::Heard(Reading { level, quality })))
 }
@@ -39,7 +39,7 @@ pub extern "C" fn royukezan_sweep_file_heard_by_value(
 // Files a missed burst. Refusals 9, 2, 3.
 #[unsafe(no_mangle)]
 pub extern "C" fn royukezan_sweep_file_missed_by_value(s: Sweep, channel: u16) -> SweepOutcome
-    ensures { result ≡ sweepOutcome s (filing s channel Missed) }
+    ensures { result ≡ sweep_outcome s (filing s channel Missed) }
 {
     sweep_outcome(sweep::file(s, channel, Burst::Missed))
 }

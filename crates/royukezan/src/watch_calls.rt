@@ -2,7 +2,7 @@
 ghost use Rattle.std.specs.Prelude.{◌≡◌};
 ghost use Rattle.readings_rules.specs.declared.Burst.TheVariants.{Heard, Missed};
 ghost use Rattle.watch_rules.specs.Told.{Call};
-ghost use Rattle.watch_rules.specs.Record.{fresh as freshWatch, called, tested};
+ghost use Rattle.watch_rules.specs.Record.{fresh as fresh_watch, called, tested};
 ghost use Rattle.host_rules.specs.Answers.{refusal_number, watch_outcome, levels_answer, verdict_answer};
 
 use host_answers::{
@@ -14,7 +14,7 @@ use watch_rules::Watch;
 // A fresh watch, which is idle.
 #[unsafe(no_mangle)]
 pub extern "C" fn royukezan_watch_fresh() -> Watch
-    ensures { result ≡ freshWatch }
+    ensures { result ≡ fresh_watch }
 {
     watch::fresh()
 }

@@ -1,6 +1,8 @@
 // Document 01's examples and faulty inputs that are run and compared. Standard input is the table of cases, with comments that say what is called.
 // Each line is written again, and after a case what each call answers, in the words of a session file. A call on a record also says whether
 // the record that it handed back is the one that it was given.
+#![tactic(auto)]
+
 ghost use Rattle.std.specs.Prelude.{◌≤◌, length};
 
 use bytes::scan::find;

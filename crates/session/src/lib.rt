@@ -1,4 +1,6 @@
 // A session file, read in blocks: each call is made through the library, and its answer written as text.
+#![tactic(auto)]
+
 mod blocks;
 mod lines;
 

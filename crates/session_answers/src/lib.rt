@@ -1,4 +1,6 @@
 // Each answer of the library as the line that a session file's answers are written as, with its newline.
+#![tactic(auto)]
+
 ghost use Rattle.std.specs.Prelude.{◌≡◌, ◌<◌};
 ghost use Rattle.refusal.specs.Number.{reason_of};
 ghost use Rattle.refusal.specs.Told.{told_outcome};

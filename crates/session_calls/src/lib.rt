@@ -1,4 +1,6 @@
 // Which row of a table of calls a line has: the table is a text, a row to a line.
+#![tactic(auto)]
+
 ghost use Rattle.std.specs.Prelude.{◌≡◌, [], ◌≤◌, length, drop};
 ghost use Rattle.session_words.specs.Bytes.{alike};
 ghost use Rattle.session_words.specs.Words.{words_of};

@@ -1,4 +1,6 @@
 // The line that is being read: its bytes so far, as they come in blocks.
+#![tactic(auto)]
+
 ghost use Rattle.std.specs.Prelude.{◌≡◌, []};
 ghost use Rattle.session_lines.specs.Lines.{kept, kept_of, with_more};
 

@@ -1,4 +1,6 @@
 // The table of a session's calls, and what each of its rows does to the state and writes.
+#![tactic(auto)]
+
 ghost use Rattle.session_rows.specs.Claims.{OneRow};
 
 mod calls;

@@ -1,4 +1,6 @@
 // The state of a session: the records that each call hands on to the next.
+#![tactic(auto)]
+
 ghost use Rattle.std.specs.Prelude.{◌≡◌};
 ghost use Rattle.session_state.specs.State.{begins};
 

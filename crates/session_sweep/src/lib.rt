@@ -1,5 +1,7 @@
 // The rows of a session's table of calls that are on the sweep alone: each makes its call through the library, with the words of a line, and
 // writes its answer.
+#![tactic(auto)]
+
 ghost use Rattle.std.specs.Prelude.{◌≡◌};
 ghost use Rattle.sweep_rules.specs.Record.{first_swept, swept_channels};
 ghost use Rattle.session_words.specs.Words.{words_of};

@@ -1,4 +1,6 @@
 // A line of a session file's answers by its template: fixed words, letters where numbers go, and a newline at the end.
+#![tactic(auto)]
+
 ghost use Rattle.std.specs.Prelude.{◌≡◌, ◌++◌, true, ◌≤◌, length, take};
 ghost use Rattle.session_texts.specs.Text.{room, said};
 ghost use Rattle.session_templates.specs.Filled.{line, stands_for, piece, filled, Run};

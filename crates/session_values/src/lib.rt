@@ -1,4 +1,6 @@
 // The numbers of a line of a session file, and the burst of two of them: its words read as numbers, by their places from 0 on.
+#![tactic(auto)]
+
 ghost use Rattle.std.specs.Prelude.{◌≡◌, ◌≤◌};
 ghost use Rattle.std.proofs.Math.Option.{get_or};
 ghost use Rattle.session_words.specs.Words.{words_of, word_at};

@@ -1,4 +1,6 @@
 // The rows of a session's table of calls that are on the watch: each makes its call through the library, with the words of a line.
+#![tactic(auto)]
+
 ghost use Rattle.std.specs.Prelude.{◌≡◌, pos, ◌-◌, min, length};
 ghost use Rattle.watch_rules.specs.Told.{told_handed, new_beam, verdict};
 ghost use Rattle.watch_rules.specs.Record.{called};

@@ -1,4 +1,6 @@
 // The words of a line of a session file: what stands between its spaces. Bytes copied into a buffer, as far as there is room.
+#![tactic(auto)]
+
 ghost use Rattle.std.specs.Prelude.{◌≡◌, ◌+◌, min, length};
 ghost use Rattle.std.proofs.Math.Seq.{paste};
 ghost use Rattle.session_words.specs.Bytes.{alike, fitting};

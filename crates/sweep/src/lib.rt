@@ -1,4 +1,6 @@
 // The calls of the band sweep: filing, the next channel, the counts and the test of a record. Document 01, section The band sweep.
+#![tactic(auto)]
+
 ghost use Rattle.std.specs.Prelude.{◌≡◌, true, false, ◌+◌, ◌≤◌, ◌<◌};
 ghost use Rattle.refusal.specs.Told.{gives, told_outcome, accepted, acceptance, refused_for};
 ghost use Rattle.sweep_rules.specs.Map.{channels, word_bits, is_set, with_bit, set_bits};

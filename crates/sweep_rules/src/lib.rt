@@ -1,5 +1,7 @@
 // The band sweep: its record, its channels and what its calls answer. Document 01, section The band sweep.
 // The rules and what is claimed of them stand in specs/; the calls stand in the crate `sweep`.
+#![tactic(auto)]
+
 ghost use Rattle.sweep_rules.specs.Claims.{RecordRule, FreshRule, OnesAreChannels, OneBitSet, WellFormedRule, RefusalRule, FilingRule};
 ghost use Rattle.sweep_rules.specs.Claims.{NextLowest, AnswerRule, FinishedRule, SequenceRule, FiledFromFresh, AnswersDiffer, AnswersTold};
 

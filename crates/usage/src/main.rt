@@ -1,4 +1,6 @@
 // How a Rattle program makes each call: a reading and back, a sweep with a choice over it, a watch, and a power step. Each answer is a line.
+#![tactic(auto)]
+
 use choice::Choice;
 use power::{Decoded, PowerParameters};
 use readings::{Burst, Hundredths, Reading, Shown};

@@ -1,5 +1,7 @@
 // The calls of the neighbour watch: file, ask and verdict here, the others passed on. Document 01, section The watch. Each takes the watch
 // by value and hands it back beside its answer; refused, it hands back the very watch that it was given.
+#![tactic(auto)]
+
 ghost use Rattle.std.specs.Prelude.{◌≡◌, true, map, ◌<◌, ◌≤◌, pos, take, drop, get_or};
 ghost use Rattle.refusal.specs.Told.{gives};
 ghost use Rattle.readings_rules.specs.Ranges.{level_in_range};

@@ -1,6 +1,8 @@
 // The calls that say which channels are under watch: start and new beam. Document 01, section The watch, and request E10 of document 02. Each
 // takes the watch by value and hands it back beside its answer; refused, it hands back the very watch that it was given. Users name them as
 // `watch::start` and `watch::new_beam`.
+#![tactic(auto)]
+
 ghost use Rattle.std.specs.Prelude.{◌≡◌, true, [], map, ◌≤◌, length, take};
 ghost use Rattle.refusal.specs.Told.{accepted, told_outcome};
 ghost use Rattle.watch_rules.specs.Lists.{mem};

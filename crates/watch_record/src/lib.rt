@@ -1,12 +1,14 @@
 // What is asked of the record of a watch: a fresh one, whether it is well formed, and a channel's place in it. Document 01, section The
 // watch. The calls of the watch stand on this; users name `fresh` and `check` as `watch::fresh` and `watch::check`.
+#![tactic(auto)]
+
 ghost use Rattle.std.specs.Prelude.{◌≡◌, cond, [], ◌≤◌, take};
 ghost use Rattle.refusal.specs.Told.{refused_for};
 ghost use Rattle.watch_rules.specs.Lists.{distinct};
 ghost use Rattle.watch_rules.specs.Limits.{depth_in_range, room};
 ghost use Rattle.watch_rules.specs.Told.{told, told_handed};
 ghost use Rattle.watch_rules.specs.Rows.{row};
-ghost use Rattle.watch_rules.specs.Record.{fresh as freshWatch, track_of, levels_fine, track_fine, track_unused, tracks_fine, depth_fine, well_formed, tested};
+ghost use Rattle.watch_rules.specs.Record.{fresh as fresh_watch, track_of, levels_fine, track_fine, track_unused, tracks_fine, depth_fine, well_formed, tested};
 ghost use Rattle.watch_record.specs.Code.{back, place_of, channels_of};
 
 use readings_rules::{CHANNEL_HIGHEST, LEVEL_HIGHEST, LEVEL_LOWEST};
@@ -15,7 +17,7 @@ use watch_rules::{Answer, CAPACITY, DEPTH_HIGHEST, DEPTH_LOWEST, Handed, ROOM, T
 
 // An idle watch.
 pub fn fresh() -> Watch
-    ensures { result ≡ freshWatch }
+    ensures { result ≡ fresh_watch }
 {
     let t = empty(0);
     let tracks = [t; ROOM];

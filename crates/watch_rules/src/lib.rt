@@ -1,5 +1,7 @@
 // The neighbour watch: its record and what its calls answer. Document 01, sections The watch and The plain watch, with what document 02 changes.
 // The rules, the plain watch and demand 3 stand in specs/; the calls stand in the crate `watch`.
+#![tactic(auto)]
+
 ghost use Rattle.watch_rules.specs.Claims.{Demand3, NothingElse, WellFormedIsReachable, ItFollows, Unchanged, UnformedRule, ListRule, SequenceRule, PlainRule, LevelsRule, RefusalRule, ListFaultRule, AcceptedRule, BeamRule, AskRule, VerdictRule, PartRule, DepthRule, WordsRule, AnswersTold, AnswersDiffer};
 
 use refusal::Refusal;
