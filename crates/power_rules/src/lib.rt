@@ -8,7 +8,7 @@ use refusal::{Outcome, Refusal};
 
 // The parameters, as codes.
 #[repr(C)]
-#[derive(Drop)]
+#[derive(Clone, Copy)]
 pub struct PowerParameters {
     // The quality aimed at, by 0.1 dB.
     pub sqt: u32,
@@ -25,7 +25,7 @@ pub struct PowerParameters {
 
 // The power record: three codes, and the increase in thousandths of a dB.
 #[repr(C)]
-#[derive(Drop)]
+#[derive(Clone, Copy)]
 pub struct PowerRecord {
     pub panlast: u32,
     pub parsave: u32,
