@@ -34,7 +34,7 @@ pub struct PowerRecord {
 }
 
 // What decoding the other end's message gave.
-#[derive(Drop)]
+#[derive(Clone, Copy)]
 pub enum Decoded {
     Failed,
     Codes { pan: u32, par: u32 },
