@@ -312,6 +312,7 @@ sent_kept x = go (handed_power x).answer refl (step_told x)
         let l = sends_within_limits x.parameters x.power x.decoded x.sqi s e in
         given refl (λ i. record { par = not-below _ s.par l.par_lowest i; pan = not-below _ s.pan l.pan_lowest i })
     go (refused (Alone n)) e (alone m k) = numbered refl k
+    go (refused (At _ _)) e p = elim p [ ]
 
 pub nothing_lost : NothingLost
 nothing_lost =
