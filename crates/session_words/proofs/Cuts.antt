@@ -9,7 +9,7 @@ use lib.ListN.{length, take, drop, length-drop}
 use lib.Seq.{drop-drop, take-length}
 use lib.Dec.{eqb, ltb, leb-suc-suc}
 use borrow.Author.Tests.{lt-ltb, le-ltb, ltb-true, ltb-false}
-use Rattle.bytes.specs.Bytes.{index_of, index_after, slice}
+use Rattle.byte_scan.specs.Bytes.{index_of, index_after, slice}
 use Rattle.session_words.specs.Words.{space, before, between, words_of, word_at}
 use Rattle.session_words.proofs.Lists.{cond-true, cond-false}
 

@@ -6,7 +6,7 @@ ghost use Rattle.std.proofs.Math.Seq.{paste};
 ghost use Rattle.session_words.specs.Bytes.{alike, fitting};
 ghost use Rattle.session_words.specs.Words.{words_of, word_at};
 
-use bytes::scan::find;
+use byte_scan::find;
 
 // The bytes between two words, and after a line.
 pub const SPACE: u8 = b' ';

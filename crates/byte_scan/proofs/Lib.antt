@@ -1,0 +1,2 @@
+-- The laws behind the proof of the search.
+pub mod Places

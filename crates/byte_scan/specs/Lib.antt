@@ -1,0 +1,2 @@
+-- Where a byte stands in a part of a text.
+pub mod Bytes
