@@ -17,7 +17,7 @@ use Rattle.refusal.specs.declared.Reason.{Reason}
 use Rattle.refusal.specs.declared.Reason.TheVariants.{Alone, At}
 use Rattle.refusal.specs.Number.{reason_of, number_in}
 use Rattle.refusal.specs.Told.{Told, refused, gives, refused_for, provided, acceptance, giving}
-use Rattle.refusal.proofs.OneToOne.{numbers_rule}
+use Rattle.refusal.proofs.Numbers.{numbers_rule}
 use Rattle.readings_rules.specs.declared.Burst.{Burst}
 use Rattle.readings_rules.specs.declared.Burst.TheVariants.{Heard, Missed}
 use Rattle.readings_rules.specs.Ranges.{level_low, level_high, quality_low, quality_high, in_range, level_in_range, quality_in_range}
@@ -312,6 +312,7 @@ sent_kept x = go (handed_power x).answer refl (step_told x)
         let l = sends_within_limits x.parameters x.power x.decoded x.sqi s e in
         given refl (λ i. record { par = not-below _ s.par l.par_lowest i; pan = not-below _ s.pan l.pan_lowest i })
     go (refused (Alone n)) e (alone m k) = numbered refl k
+    go (refused (At _ _)) e p = elim p [ ]
 
 pub nothing_lost : NothingLost
 nothing_lost =

@@ -8,7 +8,7 @@ use refusal::{Outcome, Refusal};
 
 // The parameters, as codes.
 #[repr(C)]
-#[derive(Drop)]
+#[derive(Clone, Copy)]
 pub struct PowerParameters {
     // The quality aimed at, by 0.1 dB.
     pub sqt: u32,
@@ -25,7 +25,7 @@ pub struct PowerParameters {
 
 // The power record: three codes, and the increase in thousandths of a dB.
 #[repr(C)]
-#[derive(Drop)]
+#[derive(Clone, Copy)]
 pub struct PowerRecord {
     pub panlast: u32,
     pub parsave: u32,
@@ -34,7 +34,7 @@ pub struct PowerRecord {
 }
 
 // What decoding the other end's message gave.
-#[derive(Drop)]
+#[derive(Clone, Copy)]
 pub enum Decoded {
     Failed,
     Codes { pan: u32, par: u32 },

@@ -6,7 +6,7 @@ ghost use Rattle.refusal.specs.Number.{reason_of, number_of};
 ghost use Rattle.refusal.specs.Claims.{ReasonsDiffer, OutcomesDiffer, NumbersRule, ToldRule, HandedRule};
 
 // A place is counted from 0.
-#[derive(Drop)]
+#[derive(Clone, Copy)]
 pub enum Refusal {
     // 1: a level or quality, as a float or in hundredths, is outside its range
     ReadingOutOfRange,

@@ -2,102 +2,134 @@
 // call is made again through the library, and its answer written to standard output.
 #![tactic(auto)]
 
-use libc::{STDIN_FILENO, STDOUT_FILENO};
 use session::Session;
+use std::env::{Env, FillError};
+use std::fs::{self, Files};
+use std::io::{self, ErrorKind, Read};
+use std::process::ExitCode;
+use std::str;
 
-// A session, and whether there is more to read.
+// The bytes that are read at once, and those of answers that are written at once.
+const BLOCK: usize = 65_536;
+
+// A last line's answer, and the longest name of a file.
+const ROOM: usize = 4_096;
+
+// The system's number of the error that a name is too long.
+const NAME_TOO_LONG: i32 = 36;
+
+const STANDARD_INPUT: &str = "standard input";
+
+const STANDARD_OUTPUT: &str = "standard output";
+
+const NAME: &str = "the name of the session file";
+
+// What failed, and why.
 #[derive(Drop)]
-struct Turn {
-    session: Session,
-    more: bool,
+struct Failure<'a> {
+    what: &'a str,
+    why: io::Error,
+}
+
+fn failed(what: &str, why: io::Error) -> Failure<'_> {
+    Failure { what, why }
+}
+
+fn write_answers<'a>(rt: &impl Print, answers: &[u8]) -> Result<(), Failure<'a>> {
+    match rt.write_all(answers) {
+        Ok(()) => Ok(()),
+        Err(why) => Err(failed(STANDARD_OUTPUT, why)),
+    }
 }
 
 // Answers a block; the buffer of answers is written out each time that it is full.
-fn replay_block(session: Session, block: &[u8]) -> Turn {
-    let mut out = io::large_buffer();
+fn replay_block<'a>(
+    rt: &impl Print,
+    session: Session,
+    block: &[u8],
+) -> Result<Session, Failure<'a>> {
+    let mut out = [0u8; BLOCK];
     let mut s = session;
     let mut at = 0;
     while at < block.len() {
         let progress = session::answer_block(s, &block[at..], &mut out);
         s = progress.session;
         let n = progress.written;
-        if !io::write_all(STDOUT_FILENO, &out[..n]) {
-            os::fail(b"standard output");
-            return Turn {
-                session: s,
-                more: false,
-            };
-        }
+        write_answers(rt, &out[..n])?;
         at += progress.taken;
     }
-    Turn {
-        session: s,
-        more: true,
-    }
+    Ok(s)
 }
 
 // Answers a last line that lacks its newline.
-fn replay_last(session: Session) {
-    let mut out = io::buffer();
+fn replay_last<'a>(rt: &impl Print, session: Session) -> Result<(), Failure<'a>> {
+    let mut out = [0u8; ROOM];
     let last = session::finish(session);
     let n = session_texts::put(&mut out, 0, last);
-    if !io::write_all(STDOUT_FILENO, &out[..n]) {
-        os::fail(b"standard output");
-    }
+    write_answers(rt, &out[..n])
 }
 
-// Reads once and answers what came, or at the end of the file its last line.
-fn replay_some(fd: i32, name: &[u8], session: Session) -> Turn {
-    let mut block = io::large_buffer();
-    let got = libc::read(fd, &mut block);
-    if got < 0 {
-        os::fail(name);
-        return Turn {
-            session,
-            more: false,
-        };
+// Reads once and answers what came, or at the end of the file its last line: then no session goes on.
+fn replay_some<'a, R: Read>(
+    rt: &impl Print,
+    from: &mut R,
+    name: &'a str,
+    session: Session,
+) -> Result<Option<Session>, Failure<'a>> {
+    let mut block = [0u8; BLOCK];
+    let n = match from.read(&mut block) {
+        Ok(n) => n,
+        Err(why) => return Err(failed(name, why)),
+    };
+    if n == 0 {
+        replay_last(rt, session)?;
+        return Ok(None);
     }
-    if got == 0 {
-        replay_last(session);
-        return Turn {
-            session,
-            more: false,
-        };
-    }
-    let n = io::count(got, &block);
-    replay_block(session, &block[..n])
+    let next = replay_block(rt, session, &block[..n])?;
+    Ok(Some(next))
 }
 
-// A proved loop has to end, and nothing says that a file does: it counts its turns down, from a number that no run uses up.
-fn replay(fd: i32, name: &[u8]) {
+// A proved loop has to end, and nothing says that a file does: its turns are counted, up to a number that no run reaches.
+fn replay<'a, R: Read + Drop>(
+    rt: &impl Print,
+    mut from: R,
+    name: &'a str,
+) -> Result<(), Failure<'a>> {
     let mut s = session::begin();
-    let mut turns = u64::MAX;
-    while turns > 0 {
-        let turn = replay_some(fd, name, s);
-        s = turn.session;
-        if !turn.more {
-            return;
+    for _ in 0..u64::MAX {
+        match replay_some(rt, &mut from, name, s)? {
+            Some(next) => s = next,
+            None => break,
         }
-        turns -= 1;
+    }
+    Ok(())
+}
+
+fn replay_named<'a>(rt: &(impl Print + Files), name: &'a [u8]) -> Result<(), Failure<'a>> {
+    let Ok(path) = str::from_utf8(name) else {
+        return Err(failed(
+            NAME,
+            io::Error::new(ErrorKind::InvalidInput, "not valid UTF-8"),
+        ));
+    };
+    match fs::open(rt, path) {
+        Ok(file) => replay(rt, file, path),
+        Err(why) => Err(failed(path, why)),
     }
 }
 
-fn main() {
-    if os::arg_count() < 2 {
-        replay(STDIN_FILENO, b"standard input");
-        return;
+fn main(rt: HostRuntime) -> ExitCode {
+    let mut name = [0u8; ROOM];
+    let ended = match rt.arg(1, &mut name) {
+        Ok(n) => replay_named(&rt, &name[..n]),
+        Err(FillError::NotPresent) => replay(&rt, rt.stdin(), STANDARD_INPUT),
+        Err(FillError::TooLong) => Err(failed(NAME, io::Error::from_raw_os_error(NAME_TOO_LONG))),
+    };
+    match ended {
+        Ok(()) => ExitCode::SUCCESS,
+        Err(e) => {
+            let _ = eprintln!(rt; "{}: {}", e.what, e.why);
+            ExitCode::FAILURE
+        }
     }
-    let mut path = io::buffer();
-    let n = os::arg(1, &mut path);
-    if os::errno() != 0 {
-        os::fail(b"the name of the session file");
-        return;
-    }
-    let fd = os::open_read(&path[..n]);
-    if fd < 0 {
-        os::fail(&path[..n]);
-        return;
-    }
-    replay(fd, &path[..n]);
-    libc::close(fd);
 }

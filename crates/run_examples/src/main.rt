@@ -5,8 +5,7 @@
 
 ghost use Rattle.std.specs.Prelude.{◌≤◌, length};
 
-use bytes::scan::find;
-use libc::{STDIN_FILENO, STDOUT_FILENO};
+use byte_scan::find;
 use power::{Decoded, PowerParameters, PowerRecord};
 use readings::{Burst, BurstHundredths, Reading};
 use refusal::Outcome;
@@ -18,6 +17,11 @@ use session_values::{LISTED, channel_at, channels_at, int_at, num_at};
 use session_words::{NEWLINE, same, word};
 use sweep::{CHANNELS, Sweep};
 use watch_rules::{CAPACITY, Handed, ROOM, Watch};
+
+// The system's numbers of the standard streams.
+const STDIN_FILENO: i32 = 0;
+
+const STDOUT_FILENO: i32 = 1;
 
 fn say_first_line(text: &[u8]) {
     let p = find(text, 0, text.len(), NEWLINE);

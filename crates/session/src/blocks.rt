@@ -4,7 +4,7 @@ ghost use Rattle.session_texts.specs.Text.{said};
 ghost use Rattle.session.specs.Reading.{to_write, Unread, GoesOn, Moves};
 
 use crate::lines::{answer, next_number, row_of};
-use bytes::scan::find;
+use byte_scan::find;
 use session_answers::of_watch;
 use session_lines::{LONGEST, Line, blank, with_more};
 use session_state::State;

@@ -3,7 +3,7 @@
 use Prim.Native.Nat.{ℕ}
 use mathlib.Core.Path.{◌≡◌, refl, sym, ap, ◌∙◌}
 use mathlib.Core.Bool.{Bool, true, false}
-use mathlib.Core.List.{List, ◌∷◌, Memᴰ}
+use mathlib.Core.List.{List, [], ◌∷◌, Memᴰ}
 use native.Mathlib.Omega.{arith}
 use lib.ListN.{length, take}
 use borrow.Author.Tests.{leb-true}
@@ -31,6 +31,7 @@ use Rattle.watch_rules.proofs.Reach.{left_formed, well_formed_is_reachable}
 -- ---- a record that calls leave
 
 each_of : {A : Type 0} (f : A → Bool) (x : A) (l : List A) → every f l ≡ true → Memᴰ x l → f x ≡ true
+each_of f x [] e d = elim d [ ]
 each_of f x (y ∷ l) e (Memᴰ.head q) = ap f q ∙ and_left (f y) (every f l) e
 each_of f x (y ∷ l) e (Memᴰ.tail d) = each_of f x l (and_right (f y) (every f l) e) d
 

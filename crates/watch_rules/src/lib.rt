@@ -25,7 +25,7 @@ pub const ROOM: usize = LIST_LIMIT + 1;
 
 // A channel under watch with its levels in hundredths, oldest first: 16 bits hold their range. What lies beyond `count` is 0.
 #[repr(C)]
-#[derive(Drop)]
+#[derive(Clone, Copy)]
 pub struct Track {
     pub channel: u16,
     pub count: usize,
@@ -35,7 +35,7 @@ pub struct Track {
 // The first `watched` tracks are in use: the serving channel, then its list in the network's order. The others are all zero. An idle
 // watch uses none, and its depth is 0.
 #[repr(C)]
-#[derive(Drop)]
+#[derive(Clone, Copy)]
 pub struct Watch {
     pub watched: usize,
     pub tracks: [Track; ROOM],
@@ -43,7 +43,7 @@ pub struct Watch {
 }
 
 // What a call answers.
-#[derive(Drop)]
+#[derive(Clone, Copy)]
 pub enum Answer {
     Accepted,
     Refused(Refusal),
