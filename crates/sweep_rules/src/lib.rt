@@ -9,7 +9,7 @@ use refusal::{Outcome, Refusal};
 
 // The sweep record: a level in hundredths for each of the 1,088 channel numbers, and two maps, a bit per channel.
 #[repr(C)]
-#[derive(Drop)]
+#[derive(Clone, Copy)]
 pub struct Sweep {
     pub levels: [i32; CHANNELS],
     pub visited: [u64; 17],
@@ -24,7 +24,7 @@ pub struct SweepOutcome {
 }
 
 // The lowest channel not visited.
-#[derive(Drop)]
+#[derive(Clone, Copy)]
 pub enum NextChannel {
     Channel(u16),
     Done,
