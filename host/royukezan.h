@@ -1,7 +1,7 @@
 /* The link control library of GMR-1 terminals for C and C++ hosts: readings, the band sweep, the choice of a beam, the neighbour watch and the
  * power steps. The library's README.md explains the words of the field, and document 01, the paper of rules whose refusal numbers stand below.
  *
- * Link libroyukezan.a, which `rt staticlib royukezan` proves and writes into target/staticlib/, for x86-64 with the System V calling
+ * Link libroyukezan.a, which `tools/build royukezan` proves and writes into target/staticlib/, for x86-64 with the System V calling
  * convention (Linux). `host/install PREFIX` puts the header, the archive and a file for pkg-config under a prefix.
  *
  *
