@@ -9,7 +9,7 @@ use Rattle.sweep_rules.specs.declared.Sweep.{Sweep}
 use Rattle.watch_rules.specs.Told.{Call, verdict}
 use Rattle.session_words.specs.Words.{words_of}
 use Rattle.session_calls.specs.Table.{turned, row_at}
-use Rattle.session_calls.proofs.Tables.{first_most, by_number, in_part, past_part, beyond, at_turned, Past, past}
+use Rattle.session_calls.proofs.Tables.{first_most, by_number, in_part, past_part, beyond, at_turned}
 use Rattle.session_state.specs.declared.State.{State}
 use Rattle.session_watch.specs.Rows.{watch_rows}
 use Rattle.session_sweep.specs.Rows.{SweepWritten, next_asked, sweep_rows}
@@ -45,9 +45,9 @@ module _ (n : ℕ) (s : State) (ws : List (List ℕ)) where
   pub row_is : (rows : Rows) {j k : ℕ} → j ≡ k → at rows k ≡ at rows j
   row_is rows e = ap (at rows) (sym e)
 
-  -- no row, as the last arm is told it
-  pub no_row : (rows : Rows) (k : ℕ) → Past (length rows) k → malformed n s ≡ at rows k
-  no_row rows k p = ap (λ f. f n s) (beyond malformed ws rows k (past (length rows) k p))
+  -- no row of these, as the last arm is told it
+  pub no_row : (rows : Rows) (k : ℕ) → length rows ≤ k → malformed n s ≡ at rows k
+  no_row rows k p = ap (λ f. f n s) (beyond malformed ws rows k p)
 
   -- beyond the last row
   pub no_call : row_written rows n s ws ≡ malformed n s

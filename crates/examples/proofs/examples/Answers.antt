@@ -1,6 +1,6 @@
 -- Every row of the table holds: both sides compute to the same. For the choice, that the record and the strings are accepted is shown once for each in
 -- `Choices`, and a law leads from there to what is chosen.
-use mathlib.Core.Path.{refl}
+use Rattle.std.proofs.Common.{refl}
 use lib.Ieee.{of_bits, of_fields}
 use lib.ListN.{drop}
 use Rattle.readings_rules.specs.Hundredths.{within, hundredths_of, converted}
@@ -11,8 +11,7 @@ use Rattle.power_rules.specs.PowerSteps.{brought_into, pan_use, gain, thousandth
 use Rattle.power_rules.specs.Calls.{started, sending, stepped}
 use Rattle.examples.specs.Table.{table, AllHold}
 use Rattle.examples.proofs.Choices.{reads, camps, narrow, silent}
-use Rattle.examples.proofs.examples.Statement.{statement}
-use Rattle.examples.proofs.examples.Tie as tie
+use Rattle.examples.proofs.examples.Goals as goal
 
 -- the rows of each part, from the last on
 beam_rows : AllHold (drop 32 table)
@@ -35,9 +34,6 @@ watch_rows : AllHold (drop 10 table)
 unfolding of_bits of_fields converted within hundredths_of nearest_lower full counts best target answer well_formed called
 watch_rows = (refl, (refl, (refl, (refl, power_rows))))
 
-returns : tie.Need-returns
+pub returns : goal.returns
 unfolding of_bits of_fields converted within hundredths_of nearest_lower
 returns c = (refl, (refl, (refl, (refl, (refl, (refl, (reads, (camps, (narrow, (silent, watch_rows))))))))))
-
-pub examples_spec : {M : Type 1} → statement M
-examples_spec = tie.close (tie.spec returns)

@@ -3,14 +3,8 @@ use Rattle.session_calls.specs.Grammar.{rows_of}
 use Rattle.session_watch.specs.Rows.{watch_rows}
 use Rattle.session_sweep.specs.Rows.{sweep_rows}
 use Rattle.session_rows.specs.Table.{choice_rows, power_rows, reading_rows, table, row_of}
-use borrow.Author.Rules.{rules}
-use Rattle.session_rows.proofs.rows.row_of.Statement.{statement}
-use Rattle.session_rows.proofs.rows.row_of.Tie as tie
+use Rattle.session_rows.proofs.rows.row_of.Goals as goal
 
-returns : tie.Need-returns
+pub returns : goal.returns
 unfolding rows_of row_of table watch_rows sweep_rows choice_rows power_rows reading_rows
 returns c = c.row_of.ensures
-
-pub row_of_spec : {M : Type 1} → statement M
-row_of_spec = tie.close (tie.spec
-    (λ c. search rules) (λ c κs. search rules) returns)
