@@ -7,7 +7,7 @@ use mathlib.Core.List.{List, [], ◌∷◌, ◌++◌, append_assoc, append-nil}
 use native.Mathlib.Omega.{arith}
 use lib.ListN.{length, take, drop}
 use lib.Dec.{eqb}
-use Rattle.bytes.specs.Bytes.{index_of, index_after}
+use Rattle.byte_scan.specs.Bytes.{index_of, index_after}
 use Rattle.session_words.specs.Bytes.{newline}
 use Rattle.session_lines.specs.Lines.{lines_after}
 

@@ -10,7 +10,7 @@ use lib.Seq.{paste, take-paste, drop-paste, length-paste, drop-drop, take_all}
 use lib.Dec.{leb, ltb}
 use borrow.Author.Tests.{lt-ltb, le-leb}
 use Rattle.watch_rules.proofs.Laws.{clash, and_both}
-use Rattle.bytes.specs.Bytes.{index_of, slice}
+use Rattle.byte_scan.specs.Bytes.{index_of, slice}
 use Rattle.session_words.specs.Words.{between}
 use Rattle.session_words.proofs.Cuts.{to_end}
 use Rattle.session_words.proofs.Lists.{rest-is}
