@@ -22,7 +22,7 @@ returns-then-p-row c =
     let l = c.loop-i in
     sym (l.invariant.2
     ∙ row_end c.args.row.now c.args.line.now l.invariant.0 l.invariant.1 c.find-p.ensures.place c.find-q.ensures.place
-    (sym c.if-is_many.ensures) (sym c.if-not-fits_word.ensures) c.if-p-row.true c.find-q.ensures.most)
+    (sym c.if-is_many.ensures) (sym c.if-not-fits_word.ensures) c.if-p-row.true (c.find-q.ensures.most l.invariant.1))
 
 pub returns-then-q-line : goal.returns-then-q-line
 returns-then-q-line c =
