@@ -5,15 +5,9 @@
 use session::Session;
 use std::env::{Env, FillError};
 use std::fs::{self, Files};
-use std::io::{self, ErrorKind, Read};
+use std::io::{Error, ErrorKind, Read};
 use std::process::ExitCode;
 use std::str;
-
-// The bytes that are read at once, and those of answers that are written at once.
-const BLOCK: usize = 65_536;
-
-// A last line's answer, and the longest name of a file.
-const ROOM: usize = 4_096;
 
 // The system's number of the error that a name is too long.
 const NAME_TOO_LONG: i32 = 36;
@@ -28,10 +22,10 @@ const NAME: &str = "the name of the session file";
 #[derive(Drop)]
 struct Failure<'a> {
     what: &'a str,
-    why: io::Error,
+    why: Error,
 }
 
-fn failed(what: &str, why: io::Error) -> Failure<'_> {
+fn failed(what: &str, why: Error) -> Failure<'_> {
     Failure { what, why }
 }
 
@@ -48,7 +42,7 @@ fn replay_block<'a>(
     session: Session,
     block: &[u8],
 ) -> Result<Session, Failure<'a>> {
-    let mut out = [0u8; BLOCK];
+    let mut out = io::large_buffer();
     let mut s = session;
     let mut at = 0;
     while at < block.len() {
@@ -63,7 +57,7 @@ fn replay_block<'a>(
 
 // Answers a last line that lacks its newline.
 fn replay_last<'a>(rt: &impl Print, session: Session) -> Result<(), Failure<'a>> {
-    let mut out = [0u8; ROOM];
+    let mut out = io::buffer();
     let last = session::finish(session);
     let n = session_texts::put(&mut out, 0, last);
     write_answers(rt, &out[..n])
@@ -76,7 +70,7 @@ fn replay_some<'a, R: Read>(
     name: &'a str,
     session: Session,
 ) -> Result<Option<Session>, Failure<'a>> {
-    let mut block = [0u8; BLOCK];
+    let mut block = io::large_buffer();
     let n = match from.read(&mut block) {
         Ok(n) => n,
         Err(why) => return Err(failed(name, why)),
@@ -107,10 +101,7 @@ fn replay<'a, R: Read + Drop>(
 
 fn replay_named<'a>(rt: &(impl Print + Files), name: &'a [u8]) -> Result<(), Failure<'a>> {
     let Ok(path) = str::from_utf8(name) else {
-        return Err(failed(
-            NAME,
-            io::Error::new(ErrorKind::InvalidInput, "not valid UTF-8"),
-        ));
+        return Err(failed(NAME, Error::new(ErrorKind::InvalidInput, "not valid UTF-8")));
     };
     match fs::open(rt, path) {
         Ok(file) => replay(rt, file, path),
@@ -119,11 +110,11 @@ fn replay_named<'a>(rt: &(impl Print + Files), name: &'a [u8]) -> Result<(), Fai
 }
 
 fn main(rt: HostRuntime) -> ExitCode {
-    let mut name = [0u8; ROOM];
+    let mut name = io::buffer();
     let ended = match rt.arg(1, &mut name) {
         Ok(n) => replay_named(&rt, &name[..n]),
         Err(FillError::NotPresent) => replay(&rt, rt.stdin(), STANDARD_INPUT),
-        Err(FillError::TooLong) => Err(failed(NAME, io::Error::from_raw_os_error(NAME_TOO_LONG))),
+        Err(FillError::TooLong) => Err(failed(NAME, Error::from_raw_os_error(NAME_TOO_LONG))),
     };
     match ended {
         Ok(()) => ExitCode::SUCCESS,
