@@ -35,14 +35,14 @@ pub enum Refusal {
 }
 
 // What is told of a refusal: its number alone, or its number at a place.
-#[derive(Drop)]
+#[derive(Clone, Copy)]
 pub enum Reason {
     Alone(u32),
     At { number: u32, place: u32 },
 }
 
 // What a call that gives no value answers.
-#[derive(Drop)]
+#[derive(Clone, Copy)]
 pub enum Outcome {
     Accepted,
     Refused(Refusal),

@@ -17,7 +17,7 @@ pub struct Sweep {
 }
 
 // A sweep and the answer of a call that gives no value.
-#[derive(Drop)]
+#[derive(Clone, Copy)]
 pub struct SweepOutcome {
     pub sweep: Sweep,
     pub answer: Outcome,
@@ -31,20 +31,20 @@ pub enum NextChannel {
     Refused(Refusal),
 }
 
-#[derive(Drop)]
+#[derive(Clone, Copy)]
 pub struct SweepNext {
     pub sweep: Sweep,
     pub answer: NextChannel,
 }
 
 // The numbers of channels visited and heard.
-#[derive(Drop)]
+#[derive(Clone, Copy)]
 pub enum Numbers {
     Of { visited: u32, heard: u32 },
     Refused(Refusal),
 }
 
-#[derive(Drop)]
+#[derive(Clone, Copy)]
 pub struct SweepNumbers {
     pub sweep: Sweep,
     pub answer: Numbers,

@@ -54,7 +54,7 @@ pub enum Answer {
 }
 
 // What a call hands back: the watch beside its answer. Refused, it is the watch that the call was given.
-#[derive(Drop)]
+#[derive(Clone, Copy)]
 pub struct Handed {
     pub watch: Watch,
     pub answer: Answer,
