@@ -1,7 +1,7 @@
 /* The link control library of GMR-1 terminals for C and C++ hosts: readings, the band sweep, the choice of a beam, the neighbour watch and the
  * power steps. The library's README.md explains the words of the field, and document 01, the paper of rules whose refusal numbers stand below.
  *
- * Link libroyukezan.a, which `rt staticlib royukezan` proves and writes into target/staticlib/, for x86-64 with the System V calling
+ * Link libroyukezan.a, which `tools/build royukezan` proves and writes into target/staticlib/, for x86-64 with the System V calling
  * convention (Linux). `host/install PREFIX` puts the header, the archive and a file for pkg-config under a prefix.
  *
  *
@@ -541,24 +541,24 @@ royukezan_sent_answer royukezan_power_step_failed(royukezan_power_record *r, roy
  *     royukezan_level_read_back          100
  *     royukezan_quality_read_back        100
  *     royukezan_sweep_fresh             4700
- *     royukezan_sweep_file_heard       28200  28200
- *     royukezan_sweep_file_missed      28200  28200
+ *     royukezan_sweep_file_heard       37500  37500
+ *     royukezan_sweep_file_missed      37500  37500
  *     royukezan_sweep_next              9500   9500
  *     royukezan_sweep_counts            9300   9300
  *     royukezan_sweep_check             9300   9300
- *     royukezan_choose                 13800  13800
- *     royukezan_watch_fresh              700
- *     royukezan_watch_start             2100   2100
- *     royukezan_watch_new_beam          2800   2800
- *     royukezan_watch_file_heard        3200   3200
- *     royukezan_watch_file_missed       3200   3200
+ *     royukezan_choose                 13900  13900
+ *     royukezan_watch_fresh              600
+ *     royukezan_watch_start             1900   1900
+ *     royukezan_watch_new_beam          2700   2700
+ *     royukezan_watch_file_heard        4500   4500
+ *     royukezan_watch_file_missed       4500   4500
  *     royukezan_watch_ask               1400   1400
  *     royukezan_watch_verdict           1400   1400
  *     royukezan_watch_check              700    700
  *     royukezan_power_start              200    100
  *     royukezan_power_check              100    100
- *     royukezan_power_step_decoded       300    300
- *     royukezan_power_step_failed        300    300
+ *     royukezan_power_step_decoded       200    200
+ *     royukezan_power_step_failed        200    200
  *
  * Measured by host/stack.c (x86-64, gcc 12 with -O2) and rounded up to whole hundreds. Not in it: some 3 KB of a dynamic loader that looks up
  * memcpy, memmove or memset when it is first called; link with -z now, or statically, and it does that before. */

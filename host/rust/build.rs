@@ -39,7 +39,7 @@ fn main() {
     if !archive.is_file() {
         let folder = folder.display();
         stop(format!(
-            "there is no {ARCHIVE} in {folder}: run rt staticlib royukezan in the repository, or name the archive's \
+            "there is no {ARCHIVE} in {folder}: run tools/build royukezan in the repository, or name the archive's \
              folder in {FOLDER}"
         ));
     }

@@ -16,19 +16,20 @@ use Rattle.refusal.specs.Told.{Told, gives, refused}
 use Rattle.refusal.proofs.OneToOne.{by_way_back, refusal_of, refusal_back, gives_refused}
 use Rattle.sweep_rules.specs.Record.{heard}
 use Rattle.sweep_rules.specs.declared.Sweep.{Sweep}
-use Rattle.sweep_rules.proofs.Tests.{which, clash}
+use Rattle.sweep_rules.proofs.Tests.{clash}
 use Rattle.choice_rules.specs.declared.Choice.{Choice}
 use Rattle.choice_rules.specs.declared.Choice.TheVariants as choice
 use Rattle.choice_rules.specs.Order.{search_order, near_part}
 use Rattle.choice_rules.specs.Choose.{not_read, suitable, outcome_at, outcomes_fine, Chosen, camp, read, no_beam}
-use Rattle.choice_rules.specs.Choose.{first_open, place_in, answer_of, chosen_among, chosen, choosing}
+use Rattle.choice_rules.specs.Choose.{chosen_among, chosen, choosing}
 use Rattle.choice_rules.specs.Code.{All}
 use Rattle.choice_rules.specs.Told.{told_choice}
 use Rattle.choice_rules.specs.Claims.{Accepts, Passes, SearchOrderRule, NearPartRule, WithinMargin, Unsuitable, Named, TriedIsPlace}
 use Rattle.choice_rules.specs.Claims.{NoBeamExactly, UnheardBytes, AnswersDiffer, AnswersTold}
 use Rattle.choice_rules.proofs.Lists.{all_mem, mem_all, mem_at, all-at}
 use Rattle.choice_rules.proofs.Ranked.{ordered, order_rule, near_rule}
-use Rattle.choice_rules.proofs.Answers.{is_open, open_cases, closed_above, above_closed, FirstAt, named_as, AnswerAt, chosen_at, first_yes, first_no}
+use Rattle.choice_rules.proofs.Answers.{is_open, open_cases, closed_above, above_closed, FirstAt, named_as, AnswerAt, chosen_at}
+use Rattle.choice_rules.proofs.SameBytes.{answer_same}
 use Rattle.choice_rules.proofs.Refusals.{fine_at, in_fine, to_row, from_row, Accepted, accepted_is, accepts}
 pub use Rattle.choice_rules.proofs.Refusals.{refusal_rule}
 
@@ -40,23 +41,7 @@ near_part_rule s m = near_rule (heard s) s m
 
 -- ---- bytes of channels not heard
 
--- outcomes that agree on a list give the same first open channel, and the same answer for it
-answer_same : (o p : ℕ → ℕ) (order near cs : List ℕ) → All (λ c. o c ≡ p c) cs
-    → answer_of o order near (first_open o cs) ≡ answer_of p order near (first_open p cs)
-unfolding answer_of first_open
-answer_same o p order near [] a = refl
-answer_same o p order near (c ∷ cs) a = ⊎_elim
-    (λ (e : is_open (o c) ≡ true).
-    ap (answer_of o order near) (first_yes o c cs e)
-    ∙ ap (λ (x : ℕ). cond (eqb x suitable) (camp c (place_in order c)) (read c (place_in order c))) a.0
-    ∙ sym (ap (answer_of p order near) (first_yes p c cs (ap is_open (sym a.0) ∙ e))))
-    (λ (e : is_open (o c) ≡ false).
-    ap (answer_of o order near) (first_no o c cs e)
-    ∙ answer_same o p order near cs a.1
-    ∙ sym (ap (answer_of p order near) (first_no p c cs (ap is_open (sym a.0) ∙ e))))
-    (which (is_open (o c)))
-
--- and those that agree on the channels that pass a test, the same choice among these
+-- outcomes that agree on the channels that pass a test give the same choice among these
 chosen_same : (test : ℕ → Bool) (s : Sweep) (m : ℤ) (o p : List ℕ) → ((c : ℕ) → Passes test c → outcome_at o c ≡ outcome_at p c)
     → chosen_among test s m o ≡ chosen_among test s m p
 unfolding chosen_among

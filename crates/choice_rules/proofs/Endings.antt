@@ -3,12 +3,10 @@
 use Prim.Native.Nat.{ℕ}
 use mathlib.Core.Path.{◌≡◌, refl, sym, ap, ◌∙◌}
 use mathlib.Core.Bool.{true, false}
-use mathlib.Core.List.{List, [], ◌∷◌}
+use mathlib.Core.List.{List}
 use mathlib.Core.Logic.{⊎_elim}
 use native.Mathlib.Omega.{arith}
 use lib.IntN.{ℤ}
-use denote.Enum.Declared
-use types.Run.{OneOf}
 use Rattle.refusal.specs.declared.Refusal.{Refusal}
 use Rattle.refusal.specs.declared.Refusal.TheVariants.{SweepUnfinished, ParameterOutOfRange, OutcomesFaulty, RecordNotWellFormed}
 use Rattle.refusal.specs.Told.{gives, refused, refused_for}
@@ -20,7 +18,6 @@ use Rattle.sweep_rules.specs.declared.Sweep.{Sweep}
 use Rattle.sweep_rules.specs.Record.{finished, well_formed}
 use Rattle.sweep_rules.specs.Next.{Next, done, next_of, next_told}
 use Rattle.sweep_rules.specs.Told.{told_next}
-use Rattle.sweep_rules.specs.contracts.NextChannel.{the_type}
 use Rattle.sweep_rules.proofs.Tests.{which, fails}
 use Rattle.sweep_rules.proofs.Lowest.{finished_done}
 use Rattle.choice_rules.specs.Choose.{outcomes_fine, margin_in_range, chosen, choosing}
@@ -68,20 +65,21 @@ module _ (s : Sweep) where
       let w = fails (well_formed s) (λ w. gives_refused (sym (e ∙ told_formed w))) in
       ap refused (same_reason refl (e ∙ told_unformed w)) ∙ says_9 s m o w
 
-  pub next_formed : (a : NextChannel) → told_next a ≡ next_told s → OneOf (0 ∷ 1 ∷ []) (Declared.tag_of the_type a) → well_formed s ≡ true
-  next_formed a e k = ⊎_elim (λ (w : well_formed s ≡ true). w) (λ (w : well_formed s ≡ false). absurd (by a (e ∙ told_unformed w) k)) (which (well_formed s))
+  pub next_formed : (a : NextChannel) → told_next a ≡ next_told s → ((r : Refusal) → a ≡ next.Refused r → ⊥) → well_formed s ≡ true
+  next_formed a e k =
+      ⊎_elim (λ (w : well_formed s ≡ true). w) (λ (w : well_formed s ≡ false). absurd (by a (e ∙ told_unformed w) k)) (which (well_formed s))
     where
-      by : (b : NextChannel) → told_next b ≡ refused_for RecordNotWellFormed → OneOf (0 ∷ 1 ∷ []) (Declared.tag_of the_type b) → ⊥
+      by : (b : NextChannel) → told_next b ≡ refused_for RecordNotWellFormed → ((r : Refusal) → b ≡ next.Refused r → ⊥) → ⊥
       by (next.Channel c) q t = gives_refused q
       by next.Done q t = gives_refused q
-      by (next.Refused r) q t = ⊎_elim (λ z. omega arith) (λ z. omega arith) t
+      by (next.Refused r) q t = t r refl
 
-  pub next_unfinished : (a : NextChannel) → well_formed s ≡ true → told_next a ≡ next_told s → OneOf (0 ∷ 2 ∷ []) (Declared.tag_of the_type a) → finished s ≡ false
+  pub next_unfinished : (a : NextChannel) → well_formed s ≡ true → told_next a ≡ next_told s → (a ≡ next.Done → ⊥) → finished s ≡ false
   next_unfinished a w e k = fails (finished s) (λ d. by a (e ∙ told_formed w ∙ ap gives ((finished_done s).0 d)) k)
     where
-      by : (b : NextChannel) → told_next b ≡ gives done → OneOf (0 ∷ 2 ∷ []) (Declared.tag_of the_type b) → ⊥
+      by : (b : NextChannel) → told_next b ≡ gives done → (b ≡ next.Done → ⊥) → ⊥
       by (next.Channel c) q t = let z : ◌≡◌ {A = ℕ} 0 1 = cc in omega arith
-      by next.Done q t = ⊎_elim (λ z. omega arith) (λ z. omega arith) t
+      by next.Done q t = t refl
       by (next.Refused r) q t = gives_refused (sym q)
 
   pub next_finished : (a : NextChannel) → well_formed s ≡ true → told_next a ≡ next_told s → a ≡ next.Done → finished s ≡ true

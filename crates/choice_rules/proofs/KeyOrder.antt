@@ -5,7 +5,7 @@ use Prim.Native.Nat.{ℕ, zero, suc, ◌+◌, ◌/◌, ◌%◌, ◌≤◌, ◌<�
 use mathlib.Core.Path.{◌≡◌, refl, sym, ap, ◌∙◌}
 use mathlib.Core.Bool.{Bool, true, false}
 use mathlib.Core.List.{List, [], ◌∷◌, map}
-use mathlib.Core.Logic.{◌⊎◌, inl, inr, ⊎_elim}
+use mathlib.Core.Logic.{inl, inr, ⊎_elim}
 use native.Mathlib.Nat.{not-suc-le-zero}
 use native.Mathlib.Omega.{arith}
 use lib.ListN.{length}
@@ -25,7 +25,8 @@ use Rattle.choice_rules.specs.Code.{depth, key_step, key_of, keys_of, passed, Al
 use Rattle.choice_rules.specs.Claims.{Passes}
 use Rattle.choice_rules.proofs.Whole.{above, below, le_parts, parts_le, lt_parts, parts_lt, parts_same, sub_parts, sub_size, own_size}
 use Rattle.choice_rules.proofs.Lists.{all_map, mem_all, apart_from, begin_map, sort_map}
-use Rattle.choice_rules.proofs.Ranked.{listed, ordered, before_falls, falls_before, near_rule}
+use Rattle.choice_rules.proofs.Listed.{listed}
+use Rattle.choice_rules.proofs.Ranked.{ordered, before_falls, falls_before, near_rule}
 use Rattle.choice_rules.proofs.Answers.{is_open, open_cases, closed_above, FirstAt, named_as, chosen_at}
 
 -- ---- depths

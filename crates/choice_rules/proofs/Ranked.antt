@@ -1,6 +1,6 @@
 -- The search order and its near part. The two keys, level and channel, make an order of the channels, so the sorted list is the search order
 -- that the paper describes; the nearer of two is the earlier, so its near part is a beginning.
-use Prim.Native.Nat.{ℕ, ◌+◌, ◌≤◌, ◌<◌}
+use Prim.Native.Nat.{ℕ, ◌<◌}
 use mathlib.Core.Path.{◌≡◌, refl, sym, ap, ◌∙◌, subst}
 use mathlib.Core.Bool.{Bool, true, false, not, cond, ◌&&◌, ◌||◌, false≢true}
 use mathlib.Core.List.Memᴰ
@@ -17,12 +17,13 @@ use Rattle.sweep_rules.specs.Map.{channels}
 use Rattle.sweep_rules.specs.Record.{level_at}
 use Rattle.sweep_rules.specs.declared.Sweep.{Sweep}
 use Rattle.sweep_rules.proofs.Tests.{which, clash}
-use Rattle.choice_rules.specs.Order.{from, beginning, comes_before, channels_that, search_order, at_most_below, near_of, near_part}
+use Rattle.choice_rules.specs.Order.{beginning, comes_before, channels_that, search_order, at_most_below, near_of, near_part}
 use Rattle.choice_rules.specs.Code.{All}
 use Rattle.choice_rules.specs.Claims.{Passes, Before, OrderRule, Strongest, WithinMargin, NearRule}
 use Rattle.choice_rules.proofs.Whole.{le_fact, fact_le, lt_fact}
 use Rattle.choice_rules.proofs.Whole.{above, below, le_parts, parts_le, lt_parts, parts_lt, not_lt_parts, parts_not_lt, parts_same, sub_parts}
-use Rattle.choice_rules.proofs.Lists.{all_map, all_mem, all_keep, mem_keep, all_from, mem_from, apart_from, begin_prefix, begin_passes, all_sort, mem_sort, Sorted, sorted_at, Ordering, sort_sorted}
+use Rattle.choice_rules.proofs.Listed.{listed, in_order}
+use Rattle.choice_rules.proofs.Lists.{all_mem, apart_from, begin_prefix, begin_passes, all_sort, Sorted, sorted_at, Ordering, sort_sorted}
 
 -- ---- the two keys
 
@@ -87,17 +88,10 @@ module _ (level : ℕ → ℤ) where
 -- ---- the search order
 
 module _ (test : ℕ → Bool) where
-  pub listed : All (Passes test) (channels_that test)
-  listed = all_map (channels_that test) (λ d h. (omega (arith, h.0.1), h.1)) (all_keep test (λ d. (0 ≤ d) × (d < 0 + channels)) (from channels 0) (all_from channels 0))
-
   module _ (s : Sweep) where
     pub ordered : All (Passes test) (search_order test s)
     unfolding search_order
-    ordered = all_sort (comes_before (level_at s)) (Passes test) (channels_that test) listed
-
-    pub in_order : (c : ℕ) → Passes test c → Memᴰ c (search_order test s)
-    unfolding search_order
-    in_order c p = mem_sort (comes_before (level_at s)) c (channels_that test) (mem_keep test c (from channels 0) (mem_from channels 0 c (omega arith) (omega (arith, p.0))) p.1)
+    ordered = all_sort (comes_before (level_at s)) (Passes test) (channels_that test) (listed test)
 
     pub order_sorted : Sorted (comes_before (level_at s)) (search_order test s)
     unfolding search_order
@@ -111,7 +105,7 @@ module _ (test : ℕ → Bool) where
 
     pub order_rule : OrderRule test s
     order_rule = record {
-      exactly = λ c. (λ m. all_mem (Passes test) (search_order test s) ordered c m, in_order c);
+      exactly = λ c. (λ m. all_mem (Passes test) (search_order test s) ordered c m, in_order test s c);
       once = λ i j h l e. never_itself (get_or (search_order test s) i 0) (ap (comes_before (level_at s) (get_or (search_order test s) i 0)) e ∙ sorted_at (comes_before (level_at s)) (search_order test s) order_sorted i j h l);
       sorted = λ i j h l. fact (get_or (search_order test s) i 0) (get_or (search_order test s) j 0) (before_falls (level_at s) (get_or (search_order test s) i 0) (get_or (search_order test s) j 0) (sorted_at (comes_before (level_at s)) (search_order test s) order_sorted i j h l));
     }

@@ -9,7 +9,7 @@ use refusal::Refusal;
 use sweep_rules::Sweep;
 
 // What is chosen: a channel to camp on or to read next, or no beam, each with the number of beams tried.
-#[derive(Drop)]
+#[derive(Clone, Copy)]
 pub enum Choice {
     Camp { channel: u16, tried: u32 },
     Read { channel: u16, tried: u32 },
@@ -18,7 +18,7 @@ pub enum Choice {
 }
 
 // A sweep and what is chosen over it.
-#[derive(Drop)]
+#[derive(Clone, Copy)]
 pub struct SweepChoice {
     pub sweep: Sweep,
     pub answer: Choice,

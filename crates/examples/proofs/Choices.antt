@@ -9,7 +9,8 @@ use lib.IntN.{ℤ, pos}
 use Rattle.refusal.specs.Told.{gives}
 use Rattle.readings_rules.specs.Ranges.{level_in_range}
 use Rattle.sweep_rules.specs.Map.{channels, bit_at, is_set, with_bit, all_below}
-use Rattle.sweep_rules.specs.Record.{heard, level_at, implies, is_zero, fresh_sweep, finished, heard_where_visited, no_bit_outside, zero_where_not_heard, levels_in_range, well_formed}
+use Rattle.sweep_rules.specs.Record.{heard, level_at, implies, is_zero, fresh_sweep, finished, well_formed}
+use Rattle.sweep_rules.specs.Record.{heard_where_visited, no_bit_outside, zero_where_not_heard, levels_in_range}
 use Rattle.sweep_rules.specs.declared.Sweep.{Sweep}
 use Rattle.sweep_rules.proofs.Tests.{both, each_all}
 use Rattle.choice_rules.specs.Order.{from, keep, beginning, insert_by, sort_by, search_order, near_of, near_part}
@@ -26,7 +27,8 @@ module _ {A : Type 0} where
   zeros_keep P (suc n) d h (suc c) = zeros_keep (λ i. P (suc i)) n d (λ i. h (suc i)) c
 
   -- what holds of each element at its place still does after one is put in of which it holds
-  set_keeps : (P : ℕ → A → Bool) (l : List A) (i : ℕ) (a d : A) → P i a ≡ true → ((c : ℕ) → P c (get_or l c d) ≡ true) → (c : ℕ) → P c (get_or (set l i a) c d) ≡ true
+  set_keeps : (P : ℕ → A → Bool) (l : List A) (i : ℕ) (a d : A) → P i a ≡ true → ((c : ℕ) → P c (get_or l c d) ≡ true)
+      → (c : ℕ) → P c (get_or (set l i a) c d) ≡ true
   set_keeps P [] i a d h k c = k c
   set_keeps P (x ∷ xs) zero a d h k zero = h
   set_keeps P (x ∷ xs) zero a d h k (suc c) = k (suc c)
@@ -38,8 +40,8 @@ implies_true true = refl
 implies_true false = refl
 
 -- of three_heard's levels
-three_keep : (P : ℕ → ℤ → Bool) → P 100 (minus 9000) ≡ true → P 200 (minus 9000) ≡ true → P 300 (minus 9300) ≡ true → ((c : ℕ) → P c (pos 0) ≡ true)
-    → (c : ℕ) → P c (level_at three_heard c) ≡ true
+three_keep : (P : ℕ → ℤ → Bool) → P 100 (minus 9000) ≡ true → P 200 (minus 9000) ≡ true → P 300 (minus 9300) ≡ true
+    → ((c : ℕ) → P c (pos 0) ≡ true) → (c : ℕ) → P c (level_at three_heard c) ≡ true
 unfolding fresh_sweep three_heard
 three_keep P x y z h =
     let none = replicate channels (pos 0) in

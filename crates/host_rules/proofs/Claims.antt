@@ -17,7 +17,7 @@ use Rattle.refusal.specs.declared.Reason.{Reason}
 use Rattle.refusal.specs.declared.Reason.TheVariants.{Alone, At}
 use Rattle.refusal.specs.Number.{reason_of, number_in}
 use Rattle.refusal.specs.Told.{Told, refused, gives, refused_for, provided, acceptance, giving}
-use Rattle.refusal.proofs.OneToOne.{numbers_rule}
+use Rattle.refusal.proofs.Numbers.{numbers_rule}
 use Rattle.readings_rules.specs.declared.Burst.{Burst}
 use Rattle.readings_rules.specs.declared.Burst.TheVariants.{Heard, Missed}
 use Rattle.readings_rules.specs.Ranges.{level_low, level_high, quality_low, quality_high, in_range, level_in_range, quality_in_range}

@@ -12,7 +12,7 @@ use watch_rules::Watch;
 
 // A level or a quality in hundredths.
 #[repr(C)]
-#[derive(Drop)]
+#[derive(Clone, Copy)]
 pub struct HundredthsAnswer {
     pub refusal: u32,
     pub hundredths: i32,
@@ -20,7 +20,7 @@ pub struct HundredthsAnswer {
 
 // A level in dBm or a quality in dB.
 #[repr(C)]
-#[derive(Drop)]
+#[derive(Clone, Copy)]
 pub struct FloatAnswer {
     pub refusal: u32,
     pub value: f32,
@@ -28,7 +28,7 @@ pub struct FloatAnswer {
 
 // A heard burst in hundredths.
 #[repr(C)]
-#[derive(Drop)]
+#[derive(Clone, Copy)]
 pub struct BurstAnswer {
     pub refusal: u32,
     pub level: i32,
@@ -37,7 +37,7 @@ pub struct BurstAnswer {
 
 // What a filing hands back.
 #[repr(C)]
-#[derive(Drop)]
+#[derive(Clone, Copy)]
 pub struct SweepOutcome {
     pub refusal: u32,
     pub sweep: Sweep,
@@ -45,7 +45,7 @@ pub struct SweepOutcome {
 
 // The next channel: A_CHANNEL, or DONE.
 #[repr(C)]
-#[derive(Drop)]
+#[derive(Clone, Copy)]
 pub struct NextAnswer {
     pub refusal: u32,
     pub next: u16,
@@ -54,7 +54,7 @@ pub struct NextAnswer {
 
 // The numbers of channels visited and heard.
 #[repr(C)]
-#[derive(Drop)]
+#[derive(Clone, Copy)]
 pub struct CountsAnswer {
     pub refusal: u32,
     pub visited: u32,
@@ -63,7 +63,7 @@ pub struct CountsAnswer {
 
 // The choice: CAMP, READ or NO_BEAM, with the number of beams tried.
 #[repr(C)]
-#[derive(Drop)]
+#[derive(Clone, Copy)]
 pub struct ChoiceAnswer {
     pub refusal: u32,
     pub choice: u16,
@@ -73,7 +73,7 @@ pub struct ChoiceAnswer {
 
 // What a call that may change the watch hands back. The place is that of a faulty list, NO_PLACE where none is told.
 #[repr(C)]
-#[derive(Drop)]
+#[derive(Clone, Copy)]
 pub struct WatchOutcome {
     pub refusal: u32,
     pub place: u32,
@@ -82,7 +82,7 @@ pub struct WatchOutcome {
 
 // What is asked of a channel: how many levels it has, and their mean.
 #[repr(C)]
-#[derive(Drop)]
+#[derive(Clone, Copy)]
 pub struct LevelsAnswer {
     pub refusal: u32,
     pub count: u32,
@@ -91,7 +91,7 @@ pub struct LevelsAnswer {
 
 // The verdict: WAIT, STAY, or MOVE to the channel.
 #[repr(C)]
-#[derive(Drop)]
+#[derive(Clone, Copy)]
 pub struct VerdictAnswer {
     pub refusal: u32,
     pub verdict: u16,
@@ -100,7 +100,7 @@ pub struct VerdictAnswer {
 
 // What a start or a test hands back.
 #[repr(C)]
-#[derive(Drop)]
+#[derive(Clone, Copy)]
 pub struct PowerOutcome {
     pub refusal: u32,
     pub power: PowerRecord,
@@ -108,7 +108,7 @@ pub struct PowerOutcome {
 
 // The codes to send.
 #[repr(C)]
-#[derive(Drop)]
+#[derive(Clone, Copy)]
 pub struct SentAnswer {
     pub refusal: u32,
     pub par: u32,
@@ -117,7 +117,7 @@ pub struct SentAnswer {
 
 // What a step hands back. Its first number is the answer's.
 #[repr(C)]
-#[derive(Drop)]
+#[derive(Clone, Copy)]
 pub struct SentOutcome {
     pub answer: SentAnswer,
     pub power: PowerRecord,

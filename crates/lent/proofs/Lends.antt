@@ -6,7 +6,7 @@ use mathlib.Core.Option.{some}
 use seplogic.Ra.Ura.{Ura}
 use lib.Dec.{T}
 use lib.Ieee.{Format}
-use mir.Syntax.{Name, Ty, Tys, ty_int, ty_float, Width, Fn, named}
+use mir.Syntax.{Callee as Called, Ty, Tys, ty_int, ty_float, Width, Fn, named}
 use mir.Val.{Val, Vals, vint, vfloat, vptr, of_list, of_z, has_ty, WT}
 use mir.Fields.{get_v}
 use base.Logic.{SProp, ent, sep, emp, via, fst∗, snd∗, id⊢, emp∗, comm∗, mono∗, mono_l, ex_e, ex_i, ex}
@@ -269,7 +269,7 @@ module _ (L : Lending) (Xs : List Arg) where
 
 module _ (L : Lending) (Xs : List Arg) (Says : Saying L Xs) (Tells : Telling L Xs)
     (tells : (h : L.R.D) (a : Denots (Rows 0 tt Xs)) (s : L.S.D) → Says h a s → Tells h a (L.told.get s) (L.held.get s))
-    (#callee : Name) {M : Type 1} {𝓤 : Ura M} (𝓛 : Logic 𝓤) where
+    (#callee : Called) {M : Type 1} {𝓤 : Ura M} (𝓛 : Logic 𝓤) where
   open 𝓛 use {H, A}
 
   abbrev τA : Ty
@@ -347,11 +347,11 @@ module _ (L : Lending) (Xs : List Arg) (Says : Saying L Xs) (Tells : Telling L X
 
     exits : (s : L.S.D) → Says a.0.now a₀ s × Is L.A°.row (L.told.get s) (v_a s ∷ [])
         → ent 𝓤 (sep 𝓤 (A.obs a.0.ghost_name ((row L.R).coded.code (L.held.get s)))
-        (sep 𝓤 (A.bor κs.0 (Body (mem (row L.R)) a.0.ptr.0 a.0.ptr.1 a.0.ghost_name)) (A.lft κs.0 qs.0)))
+        (sep 𝓤 (A.bor κs.0 (Body (mem (row L.R)) a.0.ref_ptr.0 a.0.ref_ptr.1 a.0.ghost_name)) (A.lft κs.0 qs.0)))
         ((walk_of 𝓛 own stayed (telling L Xs 𝓤 Tells)).post at_own (v_a s))
     exits s e =
         qed 𝓛 (‵ (fobs a.0.ghost_name ((row L.R).coded.code (L.held.get s))) ∷ ‵
-        (fbor κs.0 (Body (mem (row L.R)) a.0.ptr.0 a.0.ptr.1 a.0.ghost_name)) ∷ ‵ (flft κs.0 qs.0) ∷ []) ∵
+        (fbor κs.0 (Body (mem (row L.R)) a.0.ref_ptr.0 a.0.ref_ptr.1 a.0.ghost_name)) ∷ ‵ (flft κs.0 qs.0) ∷ []) ∵
         suffices ! _ (ends_at 𝓛 own stayed (telling L Xs 𝓤 Tells) at_own (v_a s) (L.told.get s) (L.held.get s, fins κs Xs a.1)
         (tt, fit_all κs Xs a.1)) $
         also ! (fact_i 𝓤 _ (emp 𝓤) (tells a.0.now a₀ s e.0)) $ nothing ! $ move ! (3 ∷ 0 ∷ []) $ join ! $ frame ! $
@@ -364,7 +364,7 @@ module _ (L : Lending) (Xs : List Arg) (Says : Saying L Xs) (Tells : Telling L X
   module _ (𝓣 : Tables 𝓤 H) (met : Triple 𝓤 (𝓣.C #callee) callee) where
     runs : (κs : Lfts 1) (qs : Shares 1) (a : Args own.signature κs) (are : Known 1 κs Xs a.1)
         → ent 𝓤 (on_entry 𝓛 own.signature κs qs a (mut_vals a.0, valss (Rows 1 κs Xs) (spells 1 κs Xs) a.1))
-        (WpFn 𝓤 H 𝓣.C 𝓣.Λ code (vptr a.0.ptr.0 a.0.ptr.1 ∷ vals 1 κs Xs a.1)
+        (WpFn 𝓤 H 𝓣.C 𝓣.Λ code (vptr a.0.ref_ptr.0 a.0.ref_ptr.1 ∷ vals 1 κs Xs a.1)
         ((walk_of 𝓛 own stayed (telling L Xs 𝓤 Tells)).post (at_own κs qs a are)))
     runs κs qs a are =
         let a₀ : Denots (Rows 0 tt Xs) = carry κs Xs a.1 in
@@ -389,13 +389,13 @@ module _ (L : Lending) (Xs : List Arg) (Says : Saying L Xs) (Tells : Telling L X
         (λ κs qs bounds a g are. let entry : SProp 𝓤 = on_entry 𝓛 own.signature κs qs a (mut_vals a.0, valss (Rows 1 κs Xs) (spells 1 κs Xs) a.1) in
         via 𝓤 entry (fst∗ 𝓤 entry (emp 𝓤))
         (subst (λ (vs : List Val). ent 𝓤 entry
-        (WpFn 𝓤 H 𝓣.C 𝓣.Λ code (vptr a.0.ptr.0 a.0.ptr.1 ∷ vs)
+        (WpFn 𝓤 H 𝓣.C 𝓣.Λ code (vptr a.0.ref_ptr.0 a.0.ref_ptr.1 ∷ vs)
         ((walk_of 𝓛 own stayed (telling L Xs 𝓤 Tells)).post (at_own κs qs a are.1))))
         (sym (flat_is 1 κs Xs a.1)) (runs κs qs a are.1))))
 
 -- ---- what a proof cites: of the function and of its callee it gives what Rattle made of them, and the callee's theorem
 module _ (L : Lending) (Xs : List Arg) {M : Type 1} {𝓤 : Ura M} (𝓛 : Logic 𝓤) (𝓜 : Model 𝓤 𝓛.H) (𝓡 : Running 𝓤 𝓛.H 𝓜) (γ : Env)
-    (#own #callee : Name) (routine : Routine) (calls : γ #callee ≡ routine)
+    (#own #callee : Called) (routine : Routine) (calls : γ #callee ≡ routine)
     (closed : Closed 𝓤 𝓛.H (tables 𝓤 𝓛.H 𝓜 𝓡 γ).C (tables 𝓤 𝓛.H 𝓜 𝓡 γ).Λ #own
     (lent L.R L.A°.ty L.S.name (field_tys L.S) L.held.number L.told.number #callee (tys Xs))) where
   open 𝓛 use {H}

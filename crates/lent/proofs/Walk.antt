@@ -7,10 +7,10 @@ use Prim.Native.Nat.{ℕ, zero, suc}
 use mathlib.Core.List.{List, [], ◌∷◌, ◌++◌}
 use mathlib.Core.Option.{some}
 use seplogic.Ra.Ura.{Ura}
-use seplogic.Ra.TreeShare.{full_share}
+use base.Fraction.{full_share}
 use lib.Dec.{T}
 use lib.ListN.{get_or}
-use mir.Syntax.{Name, Sym, Ty, ty_struct, Tys, ty_ref, mut, named, Opd as Operand, copy, place, deref, field, rv_opd, seq, assign, call, return, Local, local, value_local, Fn, Step as PStep}
+use mir.Syntax.{Callee as Called, Sym, Ty, ty_struct, Tys, ty_ref, mut, named, Opd as Operand, copy, place, deref, field, rv_opd, seq, assign, call, return, Local, local, value_local, Fn, Step as PStep}
 use mir.Val.{Val, Vals, vptr, vstruct, has_ty, WT}
 use mir.Fields.{get_v}
 use base.Logic.{SProp, ent, sep, wand, ex, via, comm∗, assoc∗, assoc', mono_l, mono_r, wand_i, ex_i}
@@ -157,7 +157,7 @@ module _ {M : Type 1} {𝓤 : Ura M} {𝓛 : Logic 𝓤} {K : Type 0} where
     from_at t {i} {st} {sp} e w = from t (subst (λ (x : Ty × ℕ). Walks K 𝓛 Γ E (x.0, x.1, zero) st sp) (sym e) w)
 
 -- ---- the function: its callee gives a struct ν of fields σs, of which number i is the record and number j the answer
-module _ (R : Declared) (τA : Ty) (ν : Sym) (σs : Tys) (i j : ℕ) (#callee : Name) where
+module _ (R : Declared) (τA : Ty) (ν : Sym) (σs : Tys) (i j : ℕ) (#callee : Called) where
   abbrev τS : Ty
   τS = ty_struct ν σs
 
@@ -168,6 +168,8 @@ module _ (R : Declared) (τA : Ty) (ν : Sym) (σs : Tys) (i j : ℕ) (#callee :
   lent τs = record {
     lifetimes = 1;
     outlives = [];
+    ty_params = [];
+    givens = 0;
     params = after τs 1;
     locals = local τA value_local ∷ local (ty_ref (named 0) mut (pointee (row R).written)) value_local ∷
         (locals τs ++ (local τS value_local ∷ local τR value_local ∷ []));
@@ -222,7 +224,10 @@ module _ (R : Declared) (τA : Ty) (ν : Sym) (σs : Tys) (i j : ℕ) (#callee :
           nothing ! $ use1 𝓛 (raw Pre) (asks isR) $
           calls_at ! fm Callee (λ _. known) tt
           (and_then ! (load ! (from_at ! (after_is 𝓛 τs bs _ 1) (stop !)) (look ! 6 refl))
-          (all_opds ! 5 2 τs bs vs ty (at_next 𝓛 _ _ 1 τs bs (at_next 𝓛 _ _ 0 τs bs (at_head 𝓛 τs bs _))) refl)) (λ v.
+          (all_opds ! 5 2 τs bs vs ty
+          (at_next 𝓛 (τA, l₀) ((ty_ref (named 0) mut (pointee (row R).written), l₁) ∷ (env τs bs ++ (τS, l₂) ∷ (τR, l₃) ∷ [])) 1 τs bs
+          (at_next 𝓛 (ty_ref (named 0) mut (pointee (row R).written), l₁) (env τs bs ++ (τS, l₂) ∷ (τR, l₃) ∷ []) 0 τs bs
+          (at_head 𝓛 τs bs ((τS, l₂) ∷ (τR, l₃) ∷ [])))) refl)) (λ v.
           use1 𝓛 (later (Some-of (λ (s : D). raw (fact 𝓤 (Got v (us s) (f0 s) (v_a s) × Says s))))) (gives v) $ await ! tt $ pick !
           (λ s. heard ! (Got v (us s) (f0 s) (v_a s) × Says s) (λ g.
           land ! (from_at ! (after_is 𝓛 τs bs _ 0) (stop !)) (init ! 7 refl g.0.typed) $

@@ -79,12 +79,12 @@ neg_ge zero a h = absurd h.le
 neg_ge (suc m) a h = omega (arith, leb→le a m h.le)
 
 pub rounds_down : RoundsDown
-rounds_down (pos a) d p = record { not_above_lem = pos_le (div-mul-le_self a d); greatest = most }
+rounds_down (pos a) d p = record { not_above = pos_le (div-mul-le_self a d); greatest = most }
   where
     most : (j : ℤ) → (j *ℤ pos d) ≤ℤ pos a → j ≤ℤ pos (a / d)
     most (pos b) h = pos_le ((le-div_iff_mul-le p).1 (leb→le (b * d) a h.le))
     most (negsuc b) h = record { le = tt }
-rounds_down (negsuc a) d p = record { not_above_lem = neg_le (suc (a / d) * d) a (omega (arith, suc-mul (a / d) d, lt-div-mul-add {a = a} {b = d} p)); greatest = most }
+rounds_down (negsuc a) d p = record { not_above = neg_le (suc (a / d) * d) a (omega (arith, suc-mul (a / d) d, lt-div-mul-add {a = a} {b = d} p)); greatest = most }
   where
     most : (j : ℤ) → (j *ℤ pos d) ≤ℤ negsuc a → j ≤ℤ negsuc (a / d)
     most (pos b) h = absurd h.le

@@ -46,7 +46,7 @@ SendsWithinLimits = (p : PowerParameters) (r : PowerRecord) (d : Decoded) (sqi :
 
 -- `shr_z` rounds down: it gives the greatest whole number that is not above n / d
 pub record RoundedDown (n : ℤ) (d : ℕ) (k : ℤ) : Type 0 where
-  pub not_above_lem : (k *ℤ pos d) ≤ℤ n
+  pub not_above : (k *ℤ pos d) ≤ℤ n
   pub greatest : (j : ℤ) → (j *ℤ pos d) ≤ℤ n → j ≤ℤ k
 
 abbrev pub RoundsDown : Type 0

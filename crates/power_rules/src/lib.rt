@@ -41,21 +41,21 @@ pub enum Decoded {
 }
 
 // What a step answers: the codes to send.
-#[derive(Drop)]
+#[derive(Clone, Copy)]
 pub enum Answer {
     Send { par: u32, pan: u32 },
     Refused(Refusal),
 }
 
 // A record, beside what a step answers.
-#[derive(Drop)]
+#[derive(Clone, Copy)]
 pub struct Stepped {
     pub power: PowerRecord,
     pub answer: Answer,
 }
 
 // A record, beside what a start or a test answers.
-#[derive(Drop)]
+#[derive(Clone, Copy)]
 pub struct Handed {
     pub power: PowerRecord,
     pub answer: Outcome,

@@ -27,7 +27,7 @@ use Rattle.readings_rules.proofs.Conversion.{refused_outside, inside_gives, give
 use Rattle.readings_rules.proofs.Fields.{near_hundredths}
 use Rattle.readings_rules.proofs.Signs.{is_neg, signed_is, order, by_size}
 use Rattle.readings_rules.proofs.Range.{in_size}
-use Rattle.readings_rules.proofs.NearestFloat.{float_single}
+use Rattle.readings_rules.proofs.SingleFloat.{float_single}
 use Rattle.readings_rules.proofs.Quotient.{grid, near_grid, grid_le, grid_ge, round_value, float_is}
 
 -- ---- converted again

@@ -7,6 +7,7 @@ pub mod Conversion
 pub mod Fields
 pub mod Range
 pub mod Quotient
+pub mod SingleFloat
 pub mod NearestFloat
 pub mod Back
 pub mod Bursts

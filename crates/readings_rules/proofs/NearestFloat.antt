@@ -14,9 +14,9 @@ use lib.Pow.{pow_pos, pow-lt, pow_mono, pow-add, shl_lt}
 use lib.Arith.{lt_of_le-ne}
 use lib.IntN.{ℤ, pos, negsuc, nat_abs, ◌*ℤ◌}
 use lib.Signed.{◌<ℤ◌, lt_z_yes}
-use lib.Ieee.{Float, nan, inf, fin, up, down, binary32, nearest, size, of_int, fits}
+use lib.Ieee.{Float, nan, inf, fin, up, down, binary32, nearest, size, fits}
 use lib.Ieee.Digits.{size_reaches, back}
-use lib.Ieee.Fits.{down_pos, and_l, and_r, div-fits}
+use lib.Ieee.Fits.{down_pos, and_l, and_r}
 use lib.Ieee.Exact.{HasValue}
 use lib.Ieee.Nearest.{closest}
 use Rattle.readings_rules.specs.Ranges.{in_hundredths, in_range, level_low, level_high, quality_low, quality_high}
@@ -30,6 +30,7 @@ use Rattle.readings_rules.proofs.Fields.{times}
 use Rattle.readings_rules.proofs.Signs.{is_neg, signed_is, scaled, zero_factor}
 use Rattle.readings_rules.proofs.Range.{in_size}
 use Rattle.readings_rules.proofs.Rule.{gap, away, by_case, away_is, steps_apart}
+use Rattle.readings_rules.proofs.SingleFloat.{float_single}
 use Rattle.readings_rules.proofs.Quotient.{dropped, keeps, grid, dropped_le, regroup, whole_step, round_value, float_is}
 
 -- ---- the nearest whole number is within less than a half, where there is no tie
@@ -307,11 +308,6 @@ module _ (h : ℤ) (l : nat_abs h < 65536) (s : Bool) (m : ℕ) (e : ℤ) (v : H
 
   same_sign : (t : Bool) (n : ℕ) (f : ℤ) → fin s m e ≡ fin t n f → (t ≡ true) ↔ (h <ℤ pos 0)
   same_sign t n f i = let same : t ≡ s = cc in subst (λ (b : Bool). (b ≡ true) ↔ (h <ℤ pos 0)) (sym (same ∙ v.0)) (sign_of h)
-
--- it is a single float
-pub float_single : (h : ℤ) → T (fits binary32 (float_of h))
-unfolding float_of
-float_single h = div-fits binary32 (of_int binary32 h) (of_int binary32 (pos 100))
 
 shows_nearest : (h : ℤ) → nat_abs h < 65536 → (x : Float) → HasValue x (is_neg h) (grid (nat_abs h)) (2 ^ 149) → T (fits binary32 x) → ShowsNearest h x
 shows_nearest h l nan v f = absurd v

@@ -8,42 +8,42 @@ ghost use Rattle.readings_rules.specs.Claims.{AnswersTold, AnswersDiffer};
 use refusal::Refusal;
 
 // What the modem measures in a burst that it hears: a level in dBm and a quality in dB.
-#[derive(Drop)]
+#[derive(Clone, Copy)]
 pub struct Reading {
     pub level: f32,
     pub quality: f32,
 }
 
 // The modem's result for one burst.
-#[derive(Drop)]
+#[derive(Clone, Copy)]
 pub enum Burst {
     Heard(Reading),
     Missed,
 }
 
 // A level or a quality in hundredths.
-#[derive(Drop)]
+#[derive(Clone, Copy)]
 pub enum Hundredths {
     Value(i32),
     Refused(Refusal),
 }
 
 // Hundredths shown as a float, in dBm or dB.
-#[derive(Drop)]
+#[derive(Clone, Copy)]
 pub enum Shown {
     Value(f32),
     Refused(Refusal),
 }
 
 // A reading in hundredths.
-#[derive(Drop)]
+#[derive(Clone, Copy)]
 pub struct ReadingHundredths {
     pub level: i32,
     pub quality: i32,
 }
 
 // A burst's result in hundredths.
-#[derive(Drop)]
+#[derive(Clone, Copy)]
 pub enum BurstHundredths {
     Heard(ReadingHundredths),
     Missed,

@@ -1,18 +1,17 @@
--- What is told fixes the case: a definition with a way back is one-to-one. The numbers that are not given are so case by case.
+-- What is told fixes the case: a definition with a way back is one-to-one.
 use Prim.Native.Nat.{ℕ, ◌-◌}
 use mathlib.Core.Path.{◌≡◌, refl, sym, ap, subst, ◌∙◌}
 use mathlib.Core.List.{List, [], ◌∷◌}
 use lib.ListN.{get_or}
-use native.Mathlib.Omega.{arith}
 use Rattle.refusal.specs.declared.Refusal.{Refusal}
 use Rattle.refusal.specs.declared.Refusal.TheVariants.{ReadingOutOfRange, ChannelOutOfRange, ChannelVisited, SweepUnfinished, NotWatched, ParameterOutOfRange, OutcomesFaulty, RecordNotWellFormed, ListTooLong, ListedOutOfRange, ListedAgain, ListedServing}
 use Rattle.refusal.specs.declared.Reason.{Reason}
 use Rattle.refusal.specs.declared.Reason.TheVariants.{Alone, At}
 use Rattle.refusal.specs.declared.Outcome.{Outcome}
 use Rattle.refusal.specs.declared.Outcome.TheVariants.{Accepted, Refused}
-use Rattle.refusal.specs.Number.{reason_of, number_of}
+use Rattle.refusal.specs.Number.{reason_of}
 use Rattle.refusal.specs.Told.{Told, refused, gives, told_outcome}
-use Rattle.refusal.specs.Claims.{OneToOne, ReasonsDiffer, OutcomesDiffer, NumbersRule}
+use Rattle.refusal.specs.Claims.{OneToOne, ReasonsDiffer, OutcomesDiffer}
 
 pub by_way_back : {A B : Type 0} (f : A → B) (back : B → A) → ((a : A) → back (f a) ≡ a) → OneToOne f
 by_way_back f back h a b e = sym (h a) ∙ ap back e ∙ h b
@@ -71,24 +70,6 @@ outcome_back (Refused r) = ap Refused (refusal_back r)
 
 pub outcomes_differ : OutcomesDiffer
 outcomes_differ = by_way_back told_outcome outcome_of outcome_back
-
--- each number that is given differs from 0 and from 5
-given : (r : Refusal) → (number_of r ≡ 0 → ⊥) × (number_of r ≡ 5 → ⊥)
-given ReadingOutOfRange = (λ e. omega arith, λ e. omega arith)
-given ChannelOutOfRange = (λ e. omega arith, λ e. omega arith)
-given ChannelVisited = (λ e. omega arith, λ e. omega arith)
-given SweepUnfinished = (λ e. omega arith, λ e. omega arith)
-given NotWatched = (λ e. omega arith, λ e. omega arith)
-given ParameterOutOfRange = (λ e. omega arith, λ e. omega arith)
-given OutcomesFaulty = (λ e. omega arith, λ e. omega arith)
-given RecordNotWellFormed = (λ e. omega arith, λ e. omega arith)
-given ListTooLong = (λ e. omega arith, λ e. omega arith)
-given (ListedOutOfRange p) = (λ e. omega arith, λ e. omega arith)
-given (ListedAgain p) = (λ e. omega arith, λ e. omega arith)
-given (ListedServing p) = (λ e. omega arith, λ e. omega arith)
-
-pub numbers_rule : NumbersRule
-numbers_rule = record { none_is_zero = λ r. (given r).0; none_is_five = λ r. (given r).1 }
 
 -- an accepted answer is no refusal
 Given : {A : Type 0} → Told A → Type 0

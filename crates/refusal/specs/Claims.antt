@@ -3,7 +3,7 @@ use Rattle.std.specs.Prelude.{ℕ, ◌≡◌, ◌↔◌, true, false}
 use Rattle.refusal.specs.declared.Refusal.{Refusal}
 use Rattle.refusal.specs.declared.Reason.{Reason}
 use Rattle.refusal.specs.Number.{reason_of, number_of}
-use Rattle.refusal.specs.Told.{Told, refused, gives, accepted, told_outcome, provided, acceptance, giving, unless_refused, HandedBack, hands_back, leaves}
+use Rattle.refusal.specs.Told.{Told, refused, gives, accepted, told_outcome, provided, acceptance, giving, unless_refused, hands_back, leaves}
 
 -- a definition that gives two cases the same value does so only for a case and itself: what is told fixes the case
 abbrev pub OneToOne : {A B : Type 0} → (A → B) → Type 0

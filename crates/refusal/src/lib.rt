@@ -6,7 +6,7 @@ ghost use Rattle.refusal.specs.Number.{reason_of, number_of};
 ghost use Rattle.refusal.specs.Claims.{ReasonsDiffer, OutcomesDiffer, NumbersRule, ToldRule, HandedRule};
 
 // A place is counted from 0.
-#[derive(Drop)]
+#[derive(Clone, Copy)]
 pub enum Refusal {
     // 1: a level or quality, as a float or in hundredths, is outside its range
     ReadingOutOfRange,
@@ -35,14 +35,14 @@ pub enum Refusal {
 }
 
 // What is told of a refusal: its number alone, or its number at a place.
-#[derive(Drop)]
+#[derive(Clone, Copy)]
 pub enum Reason {
     Alone(u32),
     At { number: u32, place: u32 },
 }
 
 // What a call that gives no value answers.
-#[derive(Drop)]
+#[derive(Clone, Copy)]
 pub enum Outcome {
     Accepted,
     Refused(Refusal),

@@ -56,6 +56,7 @@ fn float(x: f32) -> Text
 }
 
 // The answer of a call that gives no value.
+#[tactic(auto, unfolding(crate::specs::Lines::outcome_line))]
 pub fn of_outcome(answer: Outcome) -> Text
     ensures { said result ≡ outcome_line (told_outcome answer) }
 {
@@ -66,6 +67,7 @@ pub fn of_outcome(answer: Outcome) -> Text
 }
 
 // A level or a quality in hundredths.
+#[tactic(auto, unfolding(crate::specs::Lines::hundredths_line))]
 pub fn of_hundredths(answer: Hundredths) -> Text
     ensures { said result ≡ hundredths_line (told_hundredths answer) }
 {
@@ -76,6 +78,7 @@ pub fn of_hundredths(answer: Hundredths) -> Text
 }
 
 // Hundredths shown as a float.
+#[tactic(auto, unfolding(crate::specs::Lines::float_line))]
 pub fn of_float(answer: Shown) -> Text
     ensures { said result ≡ float_line (told_shown answer) }
 {
@@ -86,6 +89,7 @@ pub fn of_float(answer: Shown) -> Text
 }
 
 // The next channel of a sweep.
+#[tactic(auto, unfolding(crate::specs::Lines::next_line))]
 pub fn of_next(answer: NextChannel) -> Text
     ensures { said result ≡ next_line (told_next answer) }
 {
@@ -97,6 +101,7 @@ pub fn of_next(answer: NextChannel) -> Text
 }
 
 // The numbers of channels visited and heard.
+#[tactic(auto, unfolding(crate::specs::Lines::counts_line))]
 pub fn of_counts(answer: Numbers) -> Text
     ensures { said result ≡ counts_line (told_numbers answer) }
 {
@@ -112,6 +117,7 @@ pub fn of_counts(answer: Numbers) -> Text
 }
 
 // What is chosen over a sweep.
+#[tactic(auto, unfolding(crate::specs::Lines::choice_line))]
 pub fn of_choice(answer: Choice) -> Text
     ensures { said result ≡ choice_line (told_choice answer) }
 {
@@ -134,6 +140,7 @@ pub fn of_choice(answer: Choice) -> Text
 }
 
 // The answer of a call on a watch.
+#[tactic(auto, unfolding(crate::specs::Lines::watch_line))]
 pub fn of_watch(answer: watch_rules::Answer) -> Text
     ensures { said result ≡ watch_line (told answer) }
 {
@@ -153,6 +160,7 @@ pub fn of_watch(answer: watch_rules::Answer) -> Text
 }
 
 // The codes to send after a power step.
+#[tactic(auto, unfolding(crate::specs::Lines::power_line))]
 pub fn of_power(answer: power_rules::Answer) -> Text
     ensures { said result ≡ power_line (told_answer answer) }
 {

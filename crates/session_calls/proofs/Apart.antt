@@ -119,4 +119,5 @@ one_row_lem (r ∷ rows) ws d e zero (suc j) h k f g =
     absurd (not_both r (get_or rows j d) ws (from_later r d rows j (omega arith) (both (from_all r rows) (all_differ rows) e).0) f g)
 one_row_lem (r ∷ rows) ws d e (suc i) zero h k f g =
     absurd (not_both r (get_or rows i d) ws (from_later r d rows i (omega arith) (both (from_all r rows) (all_differ rows) e).0) g f)
-one_row_lem (r ∷ rows) ws d e (suc i) (suc j) h k f g = ap suc (one_row_lem rows ws d (both (from_all r rows) (all_differ rows) e).1 i j (omega arith) (omega arith) f g)
+one_row_lem (r ∷ rows) ws d e (suc i) (suc j) h k f g =
+    ap suc (one_row_lem rows ws d (both (from_all r rows) (all_differ rows) e).1 i j (omega arith) (omega arith) f g)

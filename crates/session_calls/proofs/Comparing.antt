@@ -7,7 +7,7 @@ use native.Mathlib.Omega.{arith}
 use lib.ListN.{length, drop}
 use lib.Dec.{eqb}
 use borrow.Author.Tests.{eqb-true, eqb-false}
-use Rattle.bytes.specs.Bytes.{index_of, slice}
+use Rattle.byte_scan.specs.Bytes.{index_of, slice}
 use Rattle.session_words.specs.Bytes.{newline, alike}
 use Rattle.session_words.specs.Words.{space, before, between, words_of}
 use Rattle.session_words.proofs.Cuts.{after, some_after, none_after, part_at, word_at_lem}

@@ -7,7 +7,7 @@ ghost use Rattle.session_words.specs.Words.{words_of};
 ghost use Rattle.session_numbers.specs.Numbers.{natural_of, int_of, num_of};
 ghost use Rattle.session_calls.specs.Grammar.{has, many, most_channels, channels_up_to, fits_word, fits, rows_of, first_fit};
 
-use bytes::scan::find;
+use byte_scan::find;
 use session_numbers::{BYTE_HIGHEST, CH_HIGHEST, IntWord, NaturalWord, NumWord, int, natural, num};
 use session_values::LISTED;
 use session_words::{NEWLINE, SPACE, same};

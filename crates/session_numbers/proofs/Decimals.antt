@@ -12,7 +12,7 @@ use lib.Dec.{T, leb, le→leb}
 use lib.IntN.{pos}
 use lib.Ieee.{Float, binary32, in_float}
 use borrow.Author.Tests.{le-leb, lt-leb, lt-ltb, le-ltb, leb-true}
-use Rattle.bytes.specs.Bytes.{index_of}
+use Rattle.byte_scan.specs.Bytes.{index_of}
 use Rattle.session_numbers.specs.Numbers.{also, point, is_run, value_after, value_of, digits_of, decimal_digits, quotient, fraction_of, unsigned_of}
 use Rattle.session_words.proofs.Lists.{cond-true, cond-false}
 

@@ -92,7 +92,8 @@ pub hex_end : (s : List ℕ) (i : ℕ) → length s ≤ i → all_hex_digits (dr
 unfolding all_hex_digits
 hex_end s i h = ap all_hex_digits (drop_end s i h)
 
-pub hex_value_on : (v : ℕ) (s : List ℕ) (i : ℕ) → i < length s → hex_value_after v (drop i s) ≡ hex_value_after (v * 16 + hex_digit (get_or s i 0)) (drop (i + 1) s)
+pub hex_value_on : (v : ℕ) (s : List ℕ) (i : ℕ) → i < length s
+    → hex_value_after v (drop i s) ≡ hex_value_after (v * 16 + hex_digit (get_or s i 0)) (drop (i + 1) s)
 unfolding hex_value_after
 hex_value_on v s i h = ap (hex_value_after v) (drop_at s i 0 h)
 

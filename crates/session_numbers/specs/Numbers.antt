@@ -4,7 +4,7 @@ use Rattle.std.proofs.Math.Option.{Option, none, some}
 use Rattle.std.specs.Int.Signed.{le_z}
 use Rattle.std.specs.Float.{nan, inf, binary32}
 use Rattle.std.specs.Float.Ieee.{of_int, of_bits, div, neg}
-use Rattle.bytes.specs.Bytes.{index_of}
+use Rattle.byte_scan.specs.Bytes.{index_of}
 use Rattle.session_words.specs.Bytes.{minus, bytes_of, alike}
 
 -- the value of a word, where it has one, put to a function

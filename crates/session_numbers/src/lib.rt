@@ -8,7 +8,7 @@ ghost use Rattle.session_numbers.specs.Numbers.{digits_of, whole_of, natural_of,
 ghost use Rattle.session_numbers.specs.Told.{told_natural, NotAbove, told_int, told_num};
 ghost use Rattle.session_numbers.specs.Code.{told_digits, told_whole, AtMost, hex_digit_of};
 
-use bytes::scan::find;
+use byte_scan::find;
 use session_words::same;
 
 #[derive(Drop)]

@@ -44,7 +44,8 @@ digits_are (suc f) n (suc k) h w = go (digits_are f (n / 10) k (omega arith)) (d
     last : hex_digit_ascii (n % 10) ≡ 48 + n % 10
     last = cond-true _ _ (lt-ltb (n % 10) 10 (omega arith))
 
-    go : (IsDigitCount 10 1 (n / 10) k → last_digits 10 k (n / 10) ≡ final_digits f (n / 10)) → Dec (n < 10) → last_digits 10 (suc k) n ≡ final_digits (suc f) n
+    go : (IsDigitCount 10 1 (n / 10) k → last_digits 10 k (n / 10) ≡ final_digits f (n / 10)) → Dec (n < 10)
+        → last_digits 10 (suc k) n ≡ final_digits (suc f) n
     go rest (yes l) =
         ap (λ j. last_digits 10 j (n / 10) ++ (hex_digit_ascii (n % 10) ∷ [])) (one_digit n k l w)
         ∙ ap (λ x. x ∷ []) last

@@ -130,7 +130,7 @@ fn well_formed<'a>(
     visited: &'a [u64; 17],
     heard: &'a [u64; 17],
 ) -> bool
-    ensures { result ≡ well_formed (record { levels = levels.entry.now; visited = visited.now; heard = heard.now }) }
+    ensures { result ≡ well_formed (record { levels = levels.now; visited = visited.now; heard = heard.now }) }
 {
     if !ends_clear(visited) {
         return false;

@@ -1,6 +1,6 @@
 -- What the definitions of filing come to in each case.
 use Prim.Native.Nat.{ℕ}
-use mathlib.Core.Path.{◌≡◌, sym, ap, ◌∙◌}
+use mathlib.Core.Path.{◌≡◌, refl, sym, ap, ◌∙◌}
 use mathlib.Core.Bool.{true, false}
 use mathlib.Core.List.{List}
 use lib.ListN.{set}
@@ -8,6 +8,8 @@ use lib.IntN.{ℤ}
 use Rattle.refusal.specs.declared.Refusal.TheVariants.{ChannelOutOfRange, ChannelVisited, RecordNotWellFormed}
 use Rattle.refusal.specs.declared.Reason.{Reason}
 use Rattle.refusal.specs.Told.{Told, refused, gives, refused_for, accepted, acceptance, told_outcome}
+use Rattle.refusal.proofs.OneToOne.{gives_refused}
+use Rattle.refusal.proofs.Provided.{same_reason}
 use Rattle.readings_rules.specs.declared.Burst.{Burst}
 use Rattle.readings_rules.specs.Burst as readings
 use Rattle.readings_rules.specs.Burst.{BurstResult, burst_of}
@@ -59,6 +61,13 @@ burst_heard s c t level quality e = rw e
 pub burst_refused : (s : Sweep) (c : ℕ) (t : Told BurstResult) (n : Reason) → t ≡ refused n → with_burst s c t ≡ refused n
 unfolding with_burst
 burst_refused s c t n e = rw e
+
+-- only a refused burst makes a filing refused after the other tests
+pub by_burst : (s : Sweep) (c : ℕ) (t : Told BurstResult) (n : Reason) → with_burst s c t ≡ refused n → t ≡ refused n
+unfolding with_burst
+by_burst s c (gives readings.missed) n e = absurd (gives_refused e)
+by_burst s c (gives (readings.heard level quality)) n e = absurd (gives_refused e)
+by_burst s c (refused m) n e = ap refused (same_reason refl e)
 
 -- ---- what a call hands back
 

@@ -3,6 +3,7 @@ pub mod ReadRecord
 pub mod Tests
 pub mod Words
 pub mod Maps
+pub mod MapLength
 pub mod Levels
 pub mod Formed
 pub mod Filed

@@ -2,12 +2,12 @@
 -- that word changes no other channel's.
 use Prim.Native.Nat.{ℕ, zero, suc, ◌+◌, ◌-◌, ◌*◌, ◌/◌, ◌%◌, ◌^◌, ◌<◌}
 use mathlib.Core.Path.{◌≡◌, refl, sym, ap, ap₂, ◌∙◌, subst}
-use mathlib.Core.Bool.{Bool, true, false, ◌||◌, cond}
+use mathlib.Core.Bool.{Bool, true, false, ◌||◌}
 use mathlib.Core.List.{List, [], ◌∷◌, map}
 use mathlib.Core.Logic.{◌⊎◌, inl, inr, ⊎_elim}
 use native.Mathlib.Nat.{zero-add, eq-or-lt_of_le}
 use native.Mathlib.Omega.{arith}
-use lib.ListN.{length, get_or, set, length-set, length-map, get_or-map}
+use lib.ListN.{length, get_or, set, length-map, get_or-map}
 use lib.Seq.{get_or-set_same, get_or-set_other}
 use lib.Count.{ones, count_trailing_zeros}
 use lib.Dec.{lit<, ltb}
@@ -104,14 +104,6 @@ order a b = ⊎_elim
     (λ (t : ltb a b ≡ true). inl (ltb-true a b t))
     (λ (t : ltb a b ≡ false). let g = ltb-false a b t in ⊎_elim (λ (q : b ≡ a). inr (inl (sym q))) (λ (l : b < a). inr (inr l)) (eq-or-lt_of_le g))
     (which (ltb a b))
-
-pub length_with : (m : List ℕ) (c : ℕ) → length (with_bit m c) ≡ length m
-unfolding with_bit
-length_with m c = by (is_set m c)
-  where
-    by : (b : Bool) → length (cond b m (set m (c / 64) (get_or m (c / 64) 0 + 2 ^ (c % 64)))) ≡ length m
-    by true = refl
-    by false = length-set m (c / 64) (get_or m (c / 64) 0 + 2 ^ (c % 64))
 
 module _ (m : List ℕ) (c : ℕ) (low : c / 64 < length m) (clear : is_set m c ≡ false) where
   word : ℕ

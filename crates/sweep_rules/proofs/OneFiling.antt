@@ -20,12 +20,13 @@ use Rattle.readings_rules.specs.declared.Reading.{Reading}
 use Rattle.readings_rules.specs.Burst.{burst_of, both_of}
 use Rattle.readings_rules.specs.Hundredths.{level_of, quality_of}
 use Rattle.sweep_rules.specs.Map.{is_set, with_bit}
-use Rattle.sweep_rules.specs.Record.{visited, heard, well_formed}
+use Rattle.sweep_rules.specs.Record.{visited, well_formed}
 use Rattle.sweep_rules.specs.Filing.{with_missed, with_heard, with_burst, filing, leaves}
 use Rattle.sweep_rules.specs.Claims.{Typed, WellFormed, Accepts, unformed, channel_below, channel_above, visited_before, Filed, FilingRule}
 use Rattle.sweep_rules.specs.declared.Sweep.{Sweep}
 use Rattle.sweep_rules.proofs.Tests.{which}
-use Rattle.sweep_rules.proofs.Maps.{length_with, one_bit_set}
+use Rattle.sweep_rules.proofs.MapLength.{length_with}
+use Rattle.sweep_rules.proofs.Maps.{one_bit_set}
 use Rattle.sweep_rules.proofs.Formed.{or_left, or_right, not_heard, ends_swept, well_formed_rule}
 use Rattle.sweep_rules.proofs.Filed.{file_in}
 use Rattle.sweep_rules.proofs.ReadCalls.{says_no}

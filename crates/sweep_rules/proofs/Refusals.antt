@@ -8,26 +8,25 @@ use lib.Dec.{leb}
 use borrow.Author.Tests.{leb-false}
 use Rattle.refusal.specs.declared.Reason.{Reason}
 use Rattle.refusal.specs.declared.Reason.TheVariants.{Alone}
-use Rattle.refusal.specs.Told.{Told, refused, gives, acceptance}
+use Rattle.refusal.specs.Told.{refused, acceptance}
 use Rattle.refusal.proofs.OneToOne.{gives_refused}
 use Rattle.refusal.proofs.Provided.{acceptance_refused, same_reason}
 use Rattle.readings_rules.specs.declared.Burst.{Burst}
 use Rattle.readings_rules.specs.declared.Burst.TheVariants.{Heard, Missed}
 use Rattle.readings_rules.specs.declared.Reading.{Reading}
 use Rattle.readings_rules.specs.Hundredths.{level_of, quality_of}
-use Rattle.readings_rules.specs.Burst as readings
-use Rattle.readings_rules.specs.Burst.{BurstResult, burst_of}
+use Rattle.readings_rules.specs.Burst.{burst_of}
 use Rattle.readings_rules.proofs.Conversion.{conversion_rule}
 use Rattle.readings_rules.proofs.Bursts.{burst_rule}
 use Rattle.sweep_rules.specs.Record.{swept, visited, well_formed}
-use Rattle.sweep_rules.specs.Filing.{with_burst, filing, checking}
+use Rattle.sweep_rules.specs.Filing.{filing, checking}
 use Rattle.sweep_rules.specs.Next.{next_of, next_told}
 use Rattle.sweep_rules.specs.Counts.{counts_of, counts_told}
 use Rattle.sweep_rules.specs.Claims.{WellFormed, Refuses, unformed, channel_below, channel_above, visited_before, level_outside, quality_outside, RefusalRule}
 use Rattle.sweep_rules.specs.declared.Sweep.{Sweep}
 use Rattle.sweep_rules.proofs.Tests.{which}
 use Rattle.sweep_rules.proofs.Formed.{swept_ends, ends_swept, well_formed_rule}
-use Rattle.sweep_rules.proofs.Filed.{file_9, file_2, file_3, file_in, burst_refused}
+use Rattle.sweep_rules.proofs.Filed.{file_9, file_2, file_3, file_in, burst_refused, by_burst}
 use Rattle.sweep_rules.proofs.ReadCalls.{fails, says_no, only_9, next-is, counts-is, test_is}
 
 -- ---- a filing
@@ -35,13 +34,6 @@ use Rattle.sweep_rules.proofs.ReadCalls.{fails, says_no, only_9, next-is, counts
 module _ (s : Sweep) (c : ℕ) (b : Burst) where
   row_is : {a n : Reason} → filing s c b ≡ refused n → filing s c b ≡ refused a → Refuses s c b a → Refuses s c b n
   row_is e q row = subst (Refuses s c b) (same_reason q e) row
-
-  -- only a refused burst makes a filing refused after the other tests
-  by_burst : (t : Told BurstResult) (n : Reason) → with_burst s c t ≡ refused n → t ≡ refused n
-  unfolding with_burst
-  by_burst (gives readings.missed) n e = absurd (gives_refused e)
-  by_burst (gives (readings.heard level quality)) n e = absurd (gives_refused e)
-  by_burst (refused m) n e = ap refused (same_reason refl e)
 
   -- by the readings' rules: one of its two floats is outside its range
   burst_row : WellFormed s → 2 ≤ c → c ≤ 1086 → visited s c ≡ false → (x : Burst) → b ≡ x → (n : Reason) → burst_of x ≡ refused n → Refuses s c b n
@@ -62,7 +54,7 @@ module _ (s : Sweep) (c : ℕ) (b : Burst) where
       let h = swept_ends c i in
       ⊎_elim
       (λ (v : visited s c ≡ true). row_is e (file_3 s c b w i v) (visited_before ((well_formed_rule s).0 w) h.0 h.1 v))
-      (λ (v : visited s c ≡ false). burst_row ((well_formed_rule s).0 w) h.0 h.1 v b refl n (by_burst (burst_of b) n (sym (file_in s c b w i v) ∙ e)))
+      (λ (v : visited s c ≡ false). burst_row ((well_formed_rule s).0 w) h.0 h.1 v b refl n (by_burst s c (burst_of b) n (sym (file_in s c b w i v) ∙ e)))
       (which (visited s c)))
       (λ (i : swept c ≡ false). row_is e (file_2 s c b w i) (outside w i))
       (which (swept c)))

@@ -9,7 +9,7 @@ use refusal::{Outcome, Refusal};
 
 // The sweep record: a level in hundredths for each of the 1,088 channel numbers, and two maps, a bit per channel.
 #[repr(C)]
-#[derive(Drop)]
+#[derive(Clone, Copy)]
 pub struct Sweep {
     pub levels: [i32; CHANNELS],
     pub visited: [u64; 17],
@@ -17,34 +17,34 @@ pub struct Sweep {
 }
 
 // A sweep and the answer of a call that gives no value.
-#[derive(Drop)]
+#[derive(Clone, Copy)]
 pub struct SweepOutcome {
     pub sweep: Sweep,
     pub answer: Outcome,
 }
 
 // The lowest channel not visited.
-#[derive(Drop)]
+#[derive(Clone, Copy)]
 pub enum NextChannel {
     Channel(u16),
     Done,
     Refused(Refusal),
 }
 
-#[derive(Drop)]
+#[derive(Clone, Copy)]
 pub struct SweepNext {
     pub sweep: Sweep,
     pub answer: NextChannel,
 }
 
 // The numbers of channels visited and heard.
-#[derive(Drop)]
+#[derive(Clone, Copy)]
 pub enum Numbers {
     Of { visited: u32, heard: u32 },
     Refused(Refusal),
 }
 
-#[derive(Drop)]
+#[derive(Clone, Copy)]
 pub struct SweepNumbers {
     pub sweep: Sweep,
     pub answer: Numbers,

@@ -32,4 +32,6 @@ module _ (x : ℤ) (ok : level_in_range x ≡ true) where
 
   pub distance_most : below_top x ≤ level_span
   unfolding below_top
-  distance_most = between level_lowest level_highest x refl (and_left (le_z level_lowest x) (le_z x level_highest) ok) (and_right (le_z level_lowest x) (le_z x level_highest) ok)
+  distance_most =
+      between level_lowest level_highest x refl (and_left (le_z level_lowest x) (le_z x level_highest) ok)
+      (and_right (le_z level_lowest x) (le_z x level_highest) ok)

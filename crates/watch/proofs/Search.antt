@@ -195,7 +195,8 @@ module _ (depth : ℕ) (r : Row) (rs : List Row) (m : ℕ) (good : Good depth (r
   -- who counts, by the code's test
   counting : (c : ℕ) → mem c (channels rs) ≡ true → cand c ≡ true → Counts view (pos m) c
   counting c n a =
-      let h : depth ≤ length (levels_of c (r ∷ rs)) = leb-true depth (length (levels_of c (r ∷ rs))) (and_left (leb depth (length (levels_of c (r ∷ rs)))) (ltb (far c + margin) limit) a) in
+      let h : depth ≤ length (levels_of c (r ∷ rs)) =
+      leb-true depth (length (levels_of c (r ∷ rs))) (and_left (leb depth (length (levels_of c (r ∷ rs)))) (ltb (far c + margin) limit) a) in
       record {
         serving = subst (λ (l : List ℤ). depth ≤ length l) (sym first_levels) served;
         neighbour = n;
@@ -288,7 +289,8 @@ by_tracks depth zero ts m e z g d h = absurd (z refl)
 by_tracks depth (suc n) [] m e z g d h = clash e refl
 by_tracks depth (suc n) (t ∷ ts) m e z g d h =
     verdict_is depth (row_of t) (map row_of (take n ts)) m g h d
-    ∙ ap (λ (us : List Track). stay_or_move (chosen (scan depth (all_below (row_of t).levels) (depth * m) nobody (map row_of us)))) (sym (drop_none (take n ts)))
+    ∙ ap (λ (us : List Track). stay_or_move (chosen (scan depth (all_below (row_of t).levels) (depth * m) nobody (map row_of us))))
+    (sym (drop_none (take n ts)))
 
 early_tracks : (depth n : ℕ) (ts : List Track) (h : ℤ) → tracks_fine depth n ts ≡ true → (n ≡ 0 → ⊥) → length (row_of (get_or ts 0 nothing)).levels < depth
     → verdict_of (shown depth (map row_of (take n ts))) h ≡ wait

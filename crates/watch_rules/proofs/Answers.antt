@@ -71,5 +71,6 @@ moved_told v h c alone low high =
     nothing : target v h ≡ none → false ≡ is (target v h) c
     nothing f = sym (ap (λ (o : Option ℕ). is o c) f)
 
-    judge : {b : Bool} → full v.depth (serving_levels v) ≡ b → moves_to (gives (verdict_of v h)) c ≡ moves_to (gives (cond b (stay_or_move (target v h)) wait)) c
+    judge : {b : Bool} → full v.depth (serving_levels v) ≡ b
+        → moves_to (gives (verdict_of v h)) c ≡ moves_to (gives (cond b (stay_or_move (target v h)) wait)) c
     judge f = ap (λ (b : Bool). moves_to (gives (cond b (stay_or_move (target v h)) wait)) c) f

@@ -27,7 +27,8 @@ use Rattle.watch_rules.proofs.Levels.{last_of}
 use Rattle.watch_rules.proofs.Laws.{by_case, clash, and_left, not_is, last_none, view_path}
 use Rattle.watch_rules.proofs.Depth.{depth_low}
 use Rattle.watch_rules.proofs.Words.{mem_times, times_mem}
-use Rattle.watch_rules.proofs.Faults.{fault_faulty, ListKind, is_long, has_fault, is_sound, list_kind}
+use Rattle.watch_rules.proofs.Faults.{fault_faulty}
+use Rattle.watch_rules.proofs.FaultRule.{ListKind, is_long, has_fault, is_sound, list_kind}
 use Rattle.watch_rules.proofs.Refusals.{watched_yes, yes_watched, no_watched, from_row}
 use Rattle.watch_rules.proofs.PlainSteps.{plain_rule}
 use Rattle.watch_rules.proofs.Sequence.{sequence_rule}

@@ -26,7 +26,8 @@ use Rattle.watch_rules.specs.Rows.{Row, channels, levels_of, first, rest, shown,
 use Rattle.watch_rules.specs.Record.{view_of, track_of, unused, record_of, changed_record, fresh, called, answers_from, after_from}
 use Rattle.watch_rules.specs.Claims.{mean_told, moves_to, Compared, count_of, of_record, of_plain, Alike, Reordered, ButForOrder, same, lists, AllButForOrder, end, more, OneOfFaults, AsPlain, ButForFault, same_answer, faults, AllButForFault, no_more, and_more, PlaceFree, Demand3}
 use Rattle.watch_rules.proofs.Laws.{by_case, clash, take_pad_to, view_path, levels_none}
-use Rattle.watch_rules.proofs.Faults.{fault_number, fault_faulty, ListKind, is_long, has_fault, is_sound, list_kind, long_refused, fault_refused, sound_allowed}
+use Rattle.watch_rules.proofs.Faults.{fault_number, fault_faulty}
+use Rattle.watch_rules.proofs.FaultRule.{ListKind, is_long, has_fault, is_sound, list_kind, long_refused, fault_refused, sound_allowed}
 use Rattle.watch_rules.proofs.Encode.{rows_record}
 use Rattle.watch_rules.proofs.Calls.{called_record, first_watched}
 use Rattle.watch_rules.proofs.Steps.{Step, step}

@@ -22,7 +22,8 @@ use Rattle.watch_rules.specs.Plain.{Plain, idle, seen, after}
 use Rattle.watch_rules.specs.Refusals.{Faulty, too_long, FirstFault, Refuses, list_too_long, list_faulty}
 use Rattle.watch_rules.specs.Claims.{OneOfFaults, ButForFault, same_answer, faults, AllButForFault, no_more, and_more, NothingElse, OfGroup, eleven, placed, ListFaultRule}
 use Rattle.watch_rules.proofs.Laws.{by_case}
-use Rattle.watch_rules.proofs.Faults.{fault_number, fault_faulty, no_other, ListKind, is_long, has_fault, is_sound, list_kind, long_refused, fault_refused, sound_allowed}
+use Rattle.watch_rules.proofs.Faults.{fault_number, fault_faulty}
+use Rattle.watch_rules.proofs.FaultRule.{no_other, ListKind, is_long, has_fault, is_sound, list_kind, long_refused, fault_refused, sound_allowed}
 use Rattle.watch_rules.proofs.Calls.{refused_answer}
 use Rattle.watch_rules.proofs.Refusals.{to_row, from_row, place_row}
 use Rattle.watch_rules.proofs.Demand3.{one_of_faults, answered_next}

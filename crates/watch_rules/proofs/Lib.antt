@@ -7,6 +7,7 @@ pub mod Words
 pub mod Good
 pub mod Encode
 pub mod Faults
+pub mod FaultRule
 pub mod ListSound
 pub mod Calls
 pub mod Order

@@ -18,7 +18,7 @@ use Rattle.watch_rules.specs.Rules.{unless_faulty}
 use Rattle.watch_rules.specs.Refusals.{Faulty, too_long, above, repeated, serving_in}
 use Rattle.watch_rules.proofs.Laws.{by_case, clash, and_left, and_right, and_both, not_is}
 use Rattle.watch_rules.proofs.Words.{mem_times, times_mem, distinct_times, repeat_found, every_found, every_times}
-use Rattle.watch_rules.proofs.Faults.{ListKind, is_long, has_fault, is_sound, list_kind, long_refused, fault_refused, sound_allowed}
+use Rattle.watch_rules.proofs.FaultRule.{ListKind, is_long, has_fault, is_sound, list_kind, long_refused, fault_refused, sound_allowed}
 
 -- at most 6 channels, none above 1,087, and no repeat of a channel or of the serving one
 abbrev pub list_sound : ℕ → List ℕ → Bool

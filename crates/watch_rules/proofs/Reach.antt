@@ -19,7 +19,7 @@ use Rattle.readings_rules.specs.declared.Burst.TheVariants.{Heard}
 use Rattle.readings_rules.specs.Ranges.{level_in_range}
 use Rattle.readings_rules.specs.Float.{float_of}
 use Rattle.readings_rules.specs.Burst.{BurstResult, heard, both_of, burst_of}
-use Rattle.readings_rules.proofs.NearestFloat.{float_single}
+use Rattle.readings_rules.proofs.SingleFloat.{float_single}
 use Rattle.readings_rules.proofs.Back.{level_back, quality_back}
 use Rattle.watch_rules.specs.declared.Watch.{Watch}
 use Rattle.watch_rules.specs.Lists.{mem, distinct, every}

@@ -33,7 +33,8 @@ use Rattle.watch_rules.proofs.Order.{le_yes, by_order}
 use Rattle.watch_rules.proofs.Calls.{refused_answer, granted_answer}
 use Rattle.watch_rules.proofs.Answers.{in_range}
 use Rattle.watch_rules.proofs.Words.{is_some, some_is}
-use Rattle.watch_rules.proofs.Faults.{fault_within, fault_number, ListKind, is_long, has_fault, is_sound, list_kind, long_refused, fault_refused, sound_allowed}
+use Rattle.watch_rules.proofs.Faults.{fault_within, fault_number}
+use Rattle.watch_rules.proofs.FaultRule.{ListKind, is_long, has_fault, is_sound, list_kind, long_refused, fault_refused, sound_allowed}
 
 -- ---- the tests in the table's words
 

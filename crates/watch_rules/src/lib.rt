@@ -43,7 +43,7 @@ pub struct Watch {
 }
 
 // What a call answers.
-#[derive(Drop)]
+#[derive(Clone, Copy)]
 pub enum Answer {
     Accepted,
     Refused(Refusal),
@@ -54,7 +54,7 @@ pub enum Answer {
 }
 
 // What a call hands back: the watch beside its answer. Refused, it is the watch that the call was given.
-#[derive(Drop)]
+#[derive(Clone, Copy)]
 pub struct Handed {
     pub watch: Watch,
     pub answer: Answer,

@@ -4,4 +4,4 @@ use Rattle.byte_scan.specs.Bytes.{index_of, slice}
 use Rattle.byte_scan.proofs.find.Given as goal
 
 abbrev pub invariant-loop-i : goal.invariant-loop-i
-invariant-loop-i l = l.from + index_of l.b (slice l.from l.to l.s) ≡ l.i + index_of l.b (slice l.i l.to l.s)
+invariant-loop-i l = l.from + index_of l.b (slice l.from l.end l.s) ≡ l.i + index_of l.b (slice l.i l.end l.s)

@@ -1,5 +1,6 @@
 -- The claims on the refusals, each by its proof.
-use Rattle.refusal.proofs.OneToOne.{reasons_differ, outcomes_differ, numbers_rule}
+use Rattle.refusal.proofs.OneToOne.{reasons_differ, outcomes_differ}
+use Rattle.refusal.proofs.Numbers.{numbers_rule}
 use Rattle.refusal.proofs.Provided.{told_rule, handed_rule}
 use Rattle.refusal.proofs.claimed.Statement.{statement}
 use Rattle.refusal.proofs.claimed.Tie as tie

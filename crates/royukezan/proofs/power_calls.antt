@@ -1,2 +1,0 @@
--- `Lent`: what the proofs of the two lent steps share.
-mod Lent
