@@ -3,7 +3,7 @@ use Rattle.std.proofs.Common.{ℕ, suc, ◌≡◌, ◌+◌, ◌-◌, refl, sym, 
 use Rattle.readings_rules.specs.declared.Burst.TheVariants.{Missed}
 use Rattle.sweep_rules.specs.declared.Sweep.{Sweep}
 use Rattle.sweep_rules.specs.Filing.{filing, leaves}
-use Rattle.sweep_rules.specs.Record.{first_swept, last_swept, swept_channels}
+use Rattle.sweep_rules.specs.Record.{last_swept}
 use Rattle.session_sweep.specs.Rows.{missed_from}
 use Rattle.session_sweep.proofs.rest_missed.Goals as goal
 

@@ -6,7 +6,7 @@ use mir.ValLaws.{to_z-of_z}
 use borrow.Author.Rules.{sfits_of}
 use Rattle.readings_rules.specs.declared.Burst.TheVariants.{Missed}
 use Rattle.watch_rules.specs.declared.Watch.{Watch}
-use Rattle.watch_rules.specs.Told.{Call, Called, start, file, ask, verdict}
+use Rattle.watch_rules.specs.Told.{Called, start, file, ask, verdict}
 use Rattle.watch_rules.specs.Record.{called}
 use Rattle.session_words.specs.Words.{words_of}
 use Rattle.session_calls.specs.Table.{row_at}

@@ -1,6 +1,6 @@
 -- `session::blocks::answer_block` meets its contract: by the laws of `Filling`, which the loop keeps. A turn takes bytes without a newline to the
 -- end of the block, or a line, which is on the watch or not.
-use Rattle.std.proofs.Common.{ℕ, List, [], ◌+◌, ◌-◌, ◌≤◌, ◌<◌, ◌≡◌, true, length, take, drop, refl, ap, ◌∙◌, arith, rules}
+use Rattle.std.proofs.Common.{ℕ, List, [], ◌+◌, ◌-◌, ◌≤◌, ◌<◌, ◌≡◌, true, length, take, refl, ap, ◌∙◌, arith, rules}
 use mathlib.Core.Bool.{and-eq-true_iff, ◌&&◌}
 use lib.Dec.{leb, ltb}
 use borrow.Author.Tests.{ltb-true, leb-true}

@@ -5,7 +5,7 @@ use Rattle.session_state.specs.declared.State.{State}
 use Rattle.session_watch.specs.Rows.{watch_rows}
 use Rattle.session_sweep.specs.Rows.{sweep_rows}
 use Rattle.session_rows.specs.Calls.{with_watch, handed_over, sweep_handed_over}
-use Rattle.session_rows.specs.Table.{choice_rows, power_rows, reading_rows, other_rows, row_written}
+use Rattle.session_rows.specs.Table.{choice_rows, power_rows, reading_rows, row_written}
 use Rattle.session_rows.proofs.Parts.{at, within, after, on_watch_lem, on_sweep_lem, past_sweep}
 use Rattle.session_rows.proofs.rows.make.Goals as goal
 
