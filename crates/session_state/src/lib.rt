@@ -9,7 +9,7 @@ use sweep::{CHANNELS, Sweep};
 use watch_rules::Watch;
 
 // Each channel number has an outcome byte.
-#[derive(Drop)]
+#[derive(Clone, Copy)]
 pub struct State {
     pub sweep: Sweep,
     pub outcomes: [u8; CHANNELS],
