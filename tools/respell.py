@@ -10,9 +10,9 @@ clauses and ghost imports of src/, and in the code spans of the documents. Names
 """
 import os
 import re
+import subprocess
 import sys
 
-LIBRARY = ("/opt/rattle/rattle", "/opt/rattle/logic_built")
 WORD = re.compile(r"[^\s(){}.;,@\"«»\[\]\\λ→⟨⟩|:=\x60]+")
 OWN = re.compile(r"[a-z][A-Za-z0-9_']*(?:-[A-Za-z0-9_']+)*'*")
 # names that would fall together with another of their scope
@@ -59,9 +59,11 @@ def read(path):
 
 
 def library_words():
+    """The words of the toolchain's library and logic, which lie beside the page that `rt doc` names."""
+    kit = os.path.dirname(subprocess.run(["rt", "doc"], capture_output=True, text=True, check=True).stdout.strip())
     words = set()
-    for base in LIBRARY:
-        for path in texts(base, (".antt", ".rt")):
+    for base in ("rattle", "logic_built"):
+        for path in texts(os.path.join(kit, base), (".antt", ".rt")):
             with open(path, encoding="utf-8", errors="replace") as f:
                 words.update(WORD.findall(f.read()))
     return words

@@ -10,7 +10,7 @@ use session_words::{copy_to, least};
 pub const LONGEST: usize = 200;
 
 // The first `length` bytes are the line so far. A greater length than the longest stands for any such: its first bytes alone are kept.
-#[derive(Drop)]
+#[derive(Clone, Copy)]
 pub struct Line {
     pub bytes: [u8; LONGEST],
     pub length: usize,

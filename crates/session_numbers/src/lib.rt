@@ -11,33 +11,33 @@ ghost use Rattle.session_numbers.specs.Code.{told_digits, told_whole, AtMost, he
 use byte_scan::find;
 use session_words::same;
 
-#[derive(Drop)]
+#[derive(Clone, Copy)]
 pub enum NaturalWord {
     Value(u64),
     Malformed,
 }
 
-#[derive(Drop)]
+#[derive(Clone, Copy)]
 pub enum IntWord {
     Value(i32),
     Malformed,
 }
 
-#[derive(Drop)]
+#[derive(Clone, Copy)]
 pub enum NumWord {
     Value(f32),
     Malformed,
 }
 
 // The value of a run of digits.
-#[derive(Drop)]
+#[derive(Clone, Copy)]
 pub enum DigitsWord {
     Value(u64),
     Malformed,
 }
 
 // A whole number by its sign and its size.
-#[derive(Drop)]
+#[derive(Clone, Copy)]
 pub enum WholeWord {
     Natural(u64),
     Negative(u64),

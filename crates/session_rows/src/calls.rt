@@ -11,7 +11,7 @@ use session_state::State;
 use session_texts::Text;
 
 // A state after a line, with the text that the line writes.
-#[derive(Drop)]
+#[derive(Clone, Copy)]
 pub struct Answered {
     pub state: State,
     pub text: Text,

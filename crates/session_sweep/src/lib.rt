@@ -24,7 +24,7 @@ const FIRST_SWEPT: u16 = sweep::FIRST_SWEPT as u16;
 const LAST_SWEPT: u16 = sweep::LAST_SWEPT as u16;
 
 // A sweep after a line, with the text that the line writes.
-#[derive(Drop)]
+#[derive(Clone, Copy)]
 pub struct SweepAnswered {
     pub sweep: Sweep,
     pub text: Text,

@@ -16,7 +16,7 @@ pub const ROOM: usize = 64;
 const NAN_BITS: u32 = 0x7fc0_0000;
 
 // The first `length` bytes are the text.
-#[derive(Drop)]
+#[derive(Clone, Copy)]
 pub struct Text {
     pub bytes: [u8; ROOM],
     pub length: usize,

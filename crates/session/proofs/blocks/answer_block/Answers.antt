@@ -46,12 +46,11 @@ loop-at-preserved-then-end-block c =
     let t : Session = record { state = l.state; line = c.with_more-line.result; number = l.number } in
     let inside : l.at < length block = in_block l.at (length block) room (length l.out - l.used) c.loop-at-test.true in
     let some : room ≤ length l.out - l.used = has_room l.at (length block) room (length l.out - l.used) c.loop-at-test.true in
-    let most : found.result ≤ length block = found.ensures.most (omega arith) in
     let long : length c.with_more-line.result.bytes ≡ longest = search rules in
     let goes = line_on block inside found.ensures.place s t c.if-end-block.true l.invariant.long long c.with_more-line.ensures refl refl in
     let none : 0 ≡ fitting [] l.out l.used = omega arith in
     filling_on l.invariant t [] (found.result - l.at) (omega (arith, found.ensures.place)) (omega (arith, inside, c.if-end-block.true))
-    (omega (arith, found.ensures.place, most))
+    (omega (arith, found.ensures.place, found.ensures.most))
     some (omega arith) long goes (omega (arith, none)) (paste-zero l.out l.used [] ∙ ap (paste l.out l.used []) none)
 
 -- ---- a newline: the line m is answered
@@ -84,7 +83,7 @@ loop-at-preserved-then-row-lt-WATCH_ROWS c =
     let e : handed_over l.state (told_handed c.watch_row-handed.result) ≡ done
     = ap (handed_over l.state) c.watch_row-handed.ensures ∙ watch_line l.number l.state held c.if-row-lt-WATCH_ROWS.true ∙ by_row in
     answered l.invariant _ m c.of_watch.result inside some c.find-end.ensures.place
-    (omega (arith, c.find-end.ensures.most (omega arith), c.if-end-block.false)) long long (search rules) c.with_more-line.ensures refl
+    (omega (arith, c.find-end.ensures.most, c.if-end-block.false)) long long (search rules) c.with_more-line.ensures refl
     (c.of_watch.ensures ∙ ap (λ w. w.text) e) (ap (λ w. w.state) e) c.next_number-number.ensures c.put-used.ensures.place c.put-used.ensures.bytes
 
 -- any other line
@@ -99,7 +98,7 @@ loop-at-preserved c =
     let e : _ ≡ line_written l.number l.state (so_far m)
     = c.answer-a.ensures ∙ line_held l.number l.state m long c.least.ensures c.row_of-row.ensures in
     answered l.invariant _ m c.answer-a.result.text inside some c.find-end.ensures.place
-    (omega (arith, c.find-end.ensures.most (omega arith), c.if-end-block.false)) long long (search rules) c.with_more-line.ensures refl
+    (omega (arith, c.find-end.ensures.most, c.if-end-block.false)) long long (search rules) c.with_more-line.ensures refl
     (ap (λ w. w.text) e) (ap (λ w. w.state) e) c.next_number-number.ensures put.ensures.place put.ensures.bytes
 
 -- ---- all of it
