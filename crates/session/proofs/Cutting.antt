@@ -41,7 +41,8 @@ lines_end s (b ∷ bs) more h = lines_byte s b (bs ++ more) ∙ byte (eqb b newl
     left = drop (suc (index_of newline bs)) bs ++ more
 
     byte : (x : Bool) → index_after x (index_of newline bs) < suc (length bs)
-        → (index_of newline bs < length bs → lines_after (s ++ (b ∷ [])) (bs ++ more) ≡ ((s ++ (b ∷ [])) ++ take (index_of newline bs) bs) ∷ lines_after [] left)
+        → (index_of newline bs < length bs
+        → lines_after (s ++ (b ∷ [])) (bs ++ more) ≡ ((s ++ (b ∷ [])) ++ take (index_of newline bs) bs) ∷ lines_after [] left)
         → cond x (s ∷ lines_after [] (bs ++ more)) (lines_after (s ++ (b ∷ [])) (bs ++ more))
         ≡ (s ++ take (index_after x (index_of newline bs)) (b ∷ bs)) ∷ lines_after [] (drop (index_after x (index_of newline bs)) bs ++ more)
     byte true k on = ap (λ x. x ∷ lines_after [] (bs ++ more)) (sym (append-nil s))

@@ -42,7 +42,9 @@ returns-in-2 c =
 pub returns-in-3 : goal.returns-in-3
 unfolding watch_rows
 returns-in-3 c =
-    c.verdict.ensures ∙ ap (λ h. called c.args.watch (verdict h)) (to_z-of_z w32 c.int_at.result (sfits_of c.int_at.type_inv) ∙ c.int_at.ensures) ∙ is c.args.watch c.args.line.now c.in-3.is
+    let z = c.int_at in
+    c.verdict.ensures ∙ ap (λ h. called c.args.watch (verdict h)) (to_z-of_z w32 z.result (sfits_of z.type_inv) ∙ z.ensures)
+    ∙ is c.args.watch c.args.line.now c.in-3.is
 
 pub returns-in-4 : goal.returns-in-4
 unfolding watch_rows
