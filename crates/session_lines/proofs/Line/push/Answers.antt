@@ -2,7 +2,7 @@
 use Rattle.std.proofs.Common.{ap, ◌∙◌}
 use Rattle.session_lines.specs.Lines.{kept_of}
 use Rattle.session_lines.proofs.Growing.{grown}
-use Rattle.session_lines.proofs.Line.with_more.Goals as goal
+use Rattle.session_lines.proofs.Line.push.Goals as goal
 
 pub returns : goal.returns
-returns c = ap kept_of c.push_fitting.ensures ∙ grown c.args.self.bytes.items c.args.more.now
+returns c = ap kept_of c.push_fitting.ensures ∙ grown c.args.self.now.bytes.items c.args.more.now
