@@ -17,9 +17,9 @@ use power_record::{
     well_formed,
 };
 pub use power_record::{check, start};
-pub use power_rules::{Answer, Decoded, Handed, PowerParameters, PowerRecord, Stepped};
+pub use power_rules::{Decoded, PowerParameters, PowerRecord, Sent};
 use readings_rules::{QUALITY_HIGHEST, QUALITY_LOWEST};
-use refusal::Refusal;
+use refusal::{Handed, Refusal};
 
 // One step of SQT is 0.1 dB, in hundredths.
 const SQT_STEP: u32 = 10;
@@ -120,31 +120,36 @@ impl Accepted {
 }
 
 // One step: the codes to send and the record after it, or a refusal and the record as it was given.
-pub fn step(p: PowerParameters, r: PowerRecord, d: Decoded, sqi: i32) -> Stepped
-    ensures { (result.power ≡ (stepped p r d sqi).power) × (told_answer result.answer ≡ (stepped p r d sqi).answer) }
+pub fn step(p: PowerParameters, r: PowerRecord, d: Decoded, sqi: i32) -> Handed<PowerRecord, Sent>
+    ensures { (result.state ≡ (stepped p r d sqi).power) × (told_answer result.answer ≡ (stepped p r d sqi).answer) }
 {
     match Accepted::new(p, r, d, sqi) {
         Ok(accepted) => {
-            let power = accepted.record_after();
-            let par = accepted.par(power.panlast);
-            let pan = accepted.pan(power);
-            Stepped {
-                power,
-                answer: Answer::Send { par, pan },
+            let state = accepted.record_after();
+            let par = accepted.par(state.panlast);
+            let pan = accepted.pan(state);
+            Handed {
+                state,
+                answer: Ok(Sent { par, pan }),
             }
         }
-        Err(why) => Stepped {
-            power: r,
-            answer: Answer::Refused(why),
+        Err(why) => Handed {
+            state: r,
+            answer: Err(why),
         },
     }
 }
 
 // One step on a record that is lent, which is advanced there. A refused step stores the same record again.
-pub fn advance(r: &mut PowerRecord, p: PowerParameters, d: Decoded, sqi: i32) -> Answer
+pub fn advance(
+    r: &mut PowerRecord,
+    p: PowerParameters,
+    d: Decoded,
+    sqi: i32,
+) -> Result<Sent, Refusal>
     ensures { (told_answer result ≡ (stepped p r.old d sqi).answer) × (r.new ≡ (stepped p r.old d sqi).power) }
 {
-    let s = step(p, *r, d, sqi);
-    *r = s.power;
-    s.answer
+    let handed = step(p, *r, d, sqi);
+    *r = handed.state;
+    handed.answer
 }

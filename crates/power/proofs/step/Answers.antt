@@ -14,7 +14,7 @@ returns-in-Ok c =
     let e : stepped a.p a.r a.d a.sqi ≡ record { power = record_after a.p a.r a.d; answer = gives (sending a.p a.r a.d a.sqi) } =
     rw q at c.in-Ok.ensures.accepted in
     let s = c.in-Ok.ensures.passed in
-    let after : c.record_after-power.result ≡ record_after a.p a.r a.d = cc (s.0, s.1, s.2, c.record_after-power.ensures.after) in
+    let after : c.record_after-state.result ≡ record_after a.p a.r a.d = cc (s.0, s.1, s.2, c.record_after-state.ensures.after) in
     let par : pos c.par-par.result ≡ par_to_send a.p (record_after a.p a.r a.d).panlast a.sqi = cc (s.0, s.3, q, ap (λ r. r.panlast) after, c.par-par.ensures) in
     let pan : pos c.pan-pan.result ≡ pan_to_send a.p (record_after a.p a.r a.d) = cc (s.0, after, c.pan-pan.ensures) in
     rw e (after, λ i. gives (record { par = par i; pan = pan i }))
