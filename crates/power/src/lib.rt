@@ -48,6 +48,7 @@ struct Accepted {
 
 impl Accepted {
     // The tests of a step, in the order in which they refuse.
+    #[tactic(auto, unfolding(power_rules::specs::Calls::stepped))]
     fn new(p: PowerParameters, r: PowerRecord, d: Decoded, sqi: i32) -> Result<Accepted, Refusal>
         ensures passed { IfOk result (λ a. (a.p ≡ p) × (a.r ≡ r) × (a.d ≡ d) × (a.sqi ≡ sqi)) }
         ensures accepted { OnOk result (stepped p r d sqi ≡ record { power = record_after p r d; answer = gives (sending p r d sqi) }) }
