@@ -14,7 +14,8 @@ use Rattle.watch_rules.specs.Rows.{Row, first}
 use Rattle.watch_rules.specs.Record.{rows, well_formed}
 use Rattle.watch_rules.proofs.Encode.{tracks_read}
 use Rattle.watch_rules.proofs.Calls.{formed_tracks, formed_short}
-use Rattle.watch_record.specs.Code.{place_of, channels_of}
+use Rattle.watch_record.specs.Code.{channels_of}
+use Rattle.watch_record.proofs.Places.{place_of}
 use Rattle.watch_record.proofs.Tracks.{place_among, place_most}
 
 -- the channel's place in a watch
