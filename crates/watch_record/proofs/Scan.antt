@@ -1,5 +1,5 @@
 -- The tests of a record as the code makes them, from place to place: what is left to test from a place on, and one place more.
-use Prim.Native.Nat.{ℕ, zero, suc, ◌+◌, ◌-◌, ◌≤◌, ◌<◌, suc-le-suc}
+use Prim.Native.Nat.{ℕ, zero, suc, ◌+◌, ◌-◌, ◌≤◌, ◌<◌}
 use mathlib.Core.Path.{◌≡◌, refl, sym, ap, ap₂, ◌∙◌}
 use mathlib.Core.Bool.{Bool, true, false, not, cond, ◌&&◌, ◌||◌, or_assoc, and-true, and-false}
 use mathlib.Core.List.{List, [], ◌∷◌, ◌++◌, map}
@@ -18,7 +18,7 @@ use Rattle.readings_rules.specs.Ranges.{level_in_range}
 use Rattle.watch_rules.specs.Rows.{channels}
 use Rattle.watch_rules.specs.Record.{row_of, is_zero, levels_fine, track_fine, track_unused, tracks_fine}
 use Rattle.watch_record.specs.Code.{nothing, channels_of}
-use Rattle.watch_rules.proofs.Laws.{by_case, clash, and_left, and_right, and_both, not_is, eqb_sym, or_true_right, or_false_left, or_false_right}
+use Rattle.watch_rules.proofs.Laws.{by_case, clash, and_left, and_right, and_both, not_is, eqb_sym, or_false_left, or_false_right}
 use Rattle.watch_rules.proofs.Reach.{distinct_middle}
 
 -- a list from a place on: what stands there, and the rest

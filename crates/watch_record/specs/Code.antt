@@ -1,5 +1,5 @@
 -- A watch beside its answer, and places among tracks.
-use Rattle.std.specs.Prelude.{ℕ, suc, cond, List, [], ◌∷◌, map, eqb}
+use Rattle.std.specs.Prelude.{ℕ, List, [], map}
 use Rattle.refusal.specs.Told.{Told}
 use Rattle.watch_rules.specs.declared.Track.{Track}
 use Rattle.watch_rules.specs.declared.Watch.{Watch}

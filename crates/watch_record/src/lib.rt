@@ -3,17 +3,16 @@
 #![tactic(auto)]
 
 ghost use Rattle.std.specs.Prelude.{◌≡◌, ◌==◌, cond, [], position, take, length, MatchResult, true, false};
-ghost use Rattle.refusal.specs.Told.{refused_for};
 ghost use Rattle.watch_rules.specs.Lists.{distinct};
 ghost use Rattle.watch_rules.specs.Limits.{depth_in_range, room};
-ghost use Rattle.watch_rules.specs.Told.{told, told_handed};
+ghost use Rattle.watch_rules.specs.Told.{told_answer, told_handed};
 ghost use Rattle.watch_rules.specs.Rows.{row};
 ghost use Rattle.watch_rules.specs.Record.{fresh as fresh_watch, track_of, levels_fine, track_fine, track_unused, tracks_fine, depth_fine, well_formed, tested};
 ghost use Rattle.watch_record.specs.Code.{back, channels_of};
 
 use readings_rules::{CHANNEL_HIGHEST, LEVEL_HIGHEST, LEVEL_LOWEST};
-use refusal::Refusal;
-use watch_rules::{Answer, CAPACITY, DEPTH_HIGHEST, DEPTH_LOWEST, Handed, ROOM, Track, Watch};
+use refusal::{Handed, Refusal};
+use watch_rules::{Answer, CAPACITY, DEPTH_HIGHEST, DEPTH_LOWEST, ROOM, Track, Watch};
 
 // An idle watch.
 pub fn fresh() -> Watch
@@ -35,21 +34,6 @@ pub fn empty(channel: u16) -> Track
         count: 0,
         levels: [0; CAPACITY],
     }
-}
-
-pub fn answered(w: Watch, answer: Answer) -> Handed
-    ensures { told_handed result ≡ back w (told answer) }
-{
-    Handed {
-        watch: w,
-        answer: answer,
-    }
-}
-
-pub fn refused(w: Watch, why: Refusal) -> Handed
-    ensures { told_handed result ≡ back w (refused_for why) }
-{
-    answered(w, Answer::Refused(why))
 }
 
 // A track's levels lie in the range as far as its count, and are 0 beyond it. None leaves early, and places are counted in 16 bits too, so that
@@ -152,7 +136,7 @@ pub struct Sound<'a> {
 impl<'a> Sound<'a> {
     // The watch where it is well formed, or refusal 9.
     pub fn of(watch: &'a Watch) -> Result<Sound<'a>, Refusal>
-        ensures { MatchResult result (λ s. s.watch.now ≡ watch.now) (λ why. (why ≡ Refusal.RecordNotWellFormed) × (well_formed watch.now ≡ false)) }
+        ensures { MatchResult result (λ s. (s.watch.now ≡ watch.now) × (well_formed watch.now ≡ true)) (λ why. (why ≡ Refusal.RecordNotWellFormed) × (well_formed watch.now ≡ false)) }
     {
         if well_formed(watch) {
             Ok(Sound { watch })
@@ -177,11 +161,18 @@ impl<'a> Sound<'a> {
 }
 
 // Whether a watch is well formed: accepted, or refusal 9.
-pub fn check(w: Watch) -> Handed
+pub fn check(w: Watch) -> Handed<Watch, Answer>
     ensures { told_handed result ≡ tested w }
 {
-    if !well_formed(&w) {
-        return refused(w, Refusal::RecordNotWellFormed);
+    Handed {
+        state: w,
+        answer: checked(&w),
     }
-    answered(w, Answer::Accepted)
+}
+
+fn checked(w: &Watch) -> Result<Answer, Refusal>
+    ensures { back w.now (told_answer result) ≡ tested w.now }
+{
+    Sound::of(w)?;
+    Ok(Answer::Accepted)
 }

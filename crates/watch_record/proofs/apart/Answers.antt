@@ -1,5 +1,5 @@
 -- A channel that has a place among those before it comes again; one that has none differs from them.
-use Rattle.std.proofs.Common.{◌≡◌, ◌<◌, true, false, length, take, drop, get_or, sym, ap, ◌∙◌, arith}
+use Rattle.std.proofs.Common.{◌≡◌, true, false, take, get_or, sym, ap, ◌∙◌}
 use Rattle.std.specs.Option.{is_some}
 use Rattle.watch_rules.specs.Lists.{distinct, mem}
 use Rattle.watch_record.specs.Code.{nothing, channels_of}

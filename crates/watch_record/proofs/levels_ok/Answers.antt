@@ -1,5 +1,5 @@
 -- A count with no room is told at once. A level is in the range as the code asks it, in 32 bits, and 0 where its bits are.
-use Rattle.std.proofs.Common.{◌≡◌, ◌+◌, ◌-◌, ◌<◌, ℕ, Bool, ℤ, pos, length, drop, get_or, sym, ap, ap₂, ◌∙◌, rules, arith}
+use Rattle.std.proofs.Common.{◌≡◌, ◌+◌, ◌-◌, ◌<◌, ℕ, Bool, pos, length, drop, get_or, sym, ap, ap₂, ◌∙◌, rules, arith}
 use mathlib.Core.Bool.{◌&&◌, ◌||◌, and_assoc}
 use lib.Dec.{eqb, ltb}
 use mir.Syntax.{w16}
