@@ -10,8 +10,9 @@ use Rattle.readings_rules.specs.Ranges.{quality_in_range}
 use Rattle.power_rules.specs.declared.PowerParameters.{PowerParameters}
 use Rattle.power_rules.specs.declared.PowerRecord.{PowerRecord}
 use Rattle.power_rules.specs.declared.Decoded.{Decoded}
-use Rattle.power_rules.specs.declared.Answer.TheVariants.{Send, Refused}
-use Rattle.power_rules.specs.declared.Stepped.{Stepped}
+use Rattle.std.specs.Prelude.{Ok, Err}
+use Rattle.refusal.specs.declared.Handed.{Handed}
+use Rattle.power_rules.specs.declared.Sent.{Sent}
 use Rattle.power_rules.specs.PowerSteps.{parameters_in_range, codes_in_range, well_formed, pan_use, record_after}
 use Rattle.power_rules.specs.Calls.{HandedBack, ToSend, stepped, sending}
 use Rattle.power_rules.specs.Told.{told_answer}
@@ -21,24 +22,24 @@ use Rattle.power_rules.proofs.Ranges.{usable, formed, use_below}
 use Rattle.power_rules.proofs.Rules.{par_law, pan_law}
 
 -- what a step hands back is told by its definition
-abbrev pub Tells : Stepped → HandedBack ToSend → Type 0
-Tells s h = (s.power ≡ h.power) × (told_answer s.answer ≡ h.answer)
+abbrev pub Tells : Handed PowerRecord Sent → HandedBack ToSend → Type 0
+Tells s h = (s.state ≡ h.power) × (told_answer s.answer ≡ h.answer)
 
 module _ (p : PowerParameters) (r : PowerRecord) (d : Decoded) (sqi : ℤ) where
-  refuse : (s : Stepped) (why : Refusal) → stepped p r d sqi ≡ record { power = r; answer = refused_for why }
-      → (s.power ≡ r) × (s.answer ≡ Refused why) → Tells s (stepped p r d sqi)
+  refuse : (s : Handed PowerRecord Sent) (why : Refusal) → stepped p r d sqi ≡ record { power = r; answer = refused_for why }
+      → (s.state ≡ r) × (s.answer ≡ Err why) → Tells s (stepped p r d sqi)
   refuse s why e h = rw e (h.0, ap told_answer h.1)
 
-  pub refuse_9 : (s : Stepped) → (s.power ≡ r) × (s.answer ≡ Refused RecordNotWellFormed) → well_formed r ≡ false → Tells s (stepped p r d sqi)
+  pub refuse_9 : (s : Handed PowerRecord Sent) → (s.state ≡ r) × (s.answer ≡ Err RecordNotWellFormed) → well_formed r ≡ false → Tells s (stepped p r d sqi)
   unfolding stepped
   refuse_9 s h f = refuse s RecordNotWellFormed (rw f) h
 
-  pub refuse_7 : (s : Stepped) → (s.power ≡ r) × (s.answer ≡ Refused ParameterOutOfRange) → well_formed r ≡ true
+  pub refuse_7 : (s : Handed PowerRecord Sent) → (s.state ≡ r) × (s.answer ≡ Err ParameterOutOfRange) → well_formed r ≡ true
       → (parameters_in_range p && codes_in_range d) ≡ false → Tells s (stepped p r d sqi)
   unfolding stepped
   refuse_7 s h f g = refuse s ParameterOutOfRange (rw (f, g)) h
 
-  pub refuse_1 : (s : Stepped) → (s.power ≡ r) × (s.answer ≡ Refused ReadingOutOfRange) → well_formed r ≡ true → (parameters_in_range p && codes_in_range d) ≡ true
+  pub refuse_1 : (s : Handed PowerRecord Sent) → (s.state ≡ r) × (s.answer ≡ Err ReadingOutOfRange) → well_formed r ≡ true → (parameters_in_range p && codes_in_range d) ≡ true
       → quality_in_range sqi ≡ false → Tells s (stepped p r d sqi)
   unfolding stepped
   refuse_1 s h f g q = refuse s ReadingOutOfRange (rw (f, g, q)) h
@@ -48,8 +49,8 @@ module _ (p : PowerParameters) (r : PowerRecord) (d : Decoded) (sqi : ℤ) where
   unfolding stepped
   stepped_is f g q = rw (f, g, q)
 
-  pub accept : (s : Stepped) (n : ℕ)
-      → (s.power ≡ record_after p r d) × (s.answer ≡ Send (par_at p (pan_use r d) n) (pan_at p (record_after p r d))) → n ≡ above_lowest sqi
+  pub accept : (s : Handed PowerRecord Sent) (n : ℕ)
+      → (s.state ≡ record_after p r d) × (s.answer ≡ Ok (record { par = par_at p (pan_use r d) n; pan = pan_at p (record_after p r d) })) → n ≡ above_lowest sqi
       → well_formed r ≡ true → (parameters_in_range p && codes_in_range d) ≡ true → quality_in_range sqi ≡ true → Tells s (stepped p r d sqi)
   unfolding sending
   accept s n h e f g q =
