@@ -261,7 +261,7 @@ pub fn power_outcome(handed: Handed<PowerRecord, ()>) -> PowerOutcome
     }
 }
 
-fn sent_answer(answer: Result<Sent, Refusal>) -> SentAnswer
+pub fn sent_answer(answer: Result<Sent, Refusal>) -> SentAnswer
     ensures { result ≡ sent_answer (power_told answer) }
 {
     match answer {
