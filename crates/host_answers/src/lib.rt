@@ -26,7 +26,7 @@ use watch_rules::{Answer, Watch};
 const ACCEPTED: u32 = 0;
 
 // Where no place is told: no place is so high.
-const NO_PLACE: u32 = 4294967295;
+const NO_PLACE: u32 = u32::MAX;
 
 // The cases of a next channel, of a choice and of a verdict. A refused call has none of them: 0.
 const A_CHANNEL: u16 = 1;
@@ -261,7 +261,7 @@ pub fn power_outcome(handed: Handed<PowerRecord, ()>) -> PowerOutcome
     }
 }
 
-fn sent_answer(answer: Result<Sent, Refusal>) -> SentAnswer
+pub fn sent_answer(answer: Result<Sent, Refusal>) -> SentAnswer
     ensures { result ≡ sent_answer (power_told answer) }
 {
     match answer {
