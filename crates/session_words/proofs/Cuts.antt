@@ -1,6 +1,6 @@
 -- A text cut at each byte of a kind, as a line is at its spaces and a table at its newlines: the part that begins at a place and ends where the
 -- search for that byte does, and the parts after it.
-use Prim.Native.Nat.{ℕ, zero, suc, ◌+◌, ◌-◌, ◌≤◌, ◌<◌}
+use Prim.Native.Nat.{ℕ, suc, ◌+◌, ◌-◌, ◌≤◌, ◌<◌}
 use mathlib.Core.Path.{◌≡◌, refl, sym, ap, ap₂, ◌∙◌}
 use mathlib.Core.Bool.{Bool, true, false, cond}
 use mathlib.Core.List.{List, [], ◌∷◌}
@@ -9,6 +9,12 @@ use lib.ListN.{length, take, drop, length-drop}
 use lib.Seq.{drop-drop, take-length}
 use lib.Dec.{eqb, ltb, leb-suc-suc}
 use borrow.Author.Tests.{lt-ltb, le-ltb, ltb-true, ltb-false}
+use Rattle.std.specs.Borrow.{Bor}
+use Rattle.std.specs.List.{slice_split, onto_first, slice_get}
+use Rattle.std.specs.Option.{unwrap_or, option_map}
+use Rattle.std.specs.Prelude.{Option, Some, None}
+use Rattle.std.proofs.lemmas.Option.{unwrap_or-slice_get}
+use Rattle.std.proofs.lemmas.List.Recursion.{same_from_clauses}
 use Rattle.byte_scan.specs.Bytes.{index_of, index_after, slice}
 use Rattle.session_words.specs.Words.{space, before, between, words_of, word_at}
 use Rattle.session_words.proofs.Lists.{cond-true, cond-false}
@@ -66,6 +72,32 @@ module _ (sep : ℕ) (parts : List ℕ → List (List ℕ)) (of_none : parts [] 
 
 -- ---- the words of a line
 
+-- they are the parts that the library splits it into
+pub words_are : (s : List ℕ) → slice_split (λ b. eqb b space) s ≡ words_of s
+unfolding words_of
+words_are = same_from_clauses (slice_split (λ b. eqb b space)) words_of (λ b ws. cond (eqb b space) ([] ∷ ws) (before b ws)) refl step (λ _ _. refl)
+  where
+    onto : (b : ℕ) (ws : List (List ℕ)) → onto_first b ws ≡ before b ws
+    onto b [] = refl
+    onto b (w ∷ ws) = refl
+
+    step : (b : ℕ) (s : List ℕ)
+        → slice_split (λ b. eqb b space) (b ∷ s)
+        ≡ cond (eqb b space) ([] ∷ slice_split (λ b. eqb b space) s) (before b (slice_split (λ b. eqb b space) s))
+    step b s = ap (cond (eqb b space) ([] ∷ slice_split (λ b. eqb b space) s)) (onto b (slice_split (λ b. eqb b space) s))
+
+-- a word that the library picks of them, or else the empty one
+pub picked : (s : List ℕ) (k : ℕ) (r : Option (Bor (List ℕ))) (none : Bor (List ℕ)) → none.now ≡ []
+    → option_map (λ (x : Bor (List ℕ)). x.now) r ≡ slice_get (slice_split (λ b. eqb b space) s) k → (unwrap_or r none).now ≡ word_at (words_of s) k
+picked s k r none e h =
+    now r
+    ∙ ap₂ unwrap_or (h ∙ ap (λ ws. slice_get ws k) (words_are s)) e
+    ∙ unwrap_or-slice_get (words_of s) k []
+  where
+    now : (r : Option (Bor (List ℕ))) → (unwrap_or r none).now ≡ unwrap_or (option_map (λ (x : Bor (List ℕ)). x.now) r) none.now
+    now None = refl
+    now (Some x) = refl
+
 words_none : words_of [] ≡ [] ∷ []
 unfolding words_of
 words_none = refl
@@ -77,18 +109,3 @@ words_of_lem b s = refl
 module _ (s : List ℕ) {i p : ℕ} (within : i ≤ length s) (ends : p ≡ i + index_of space (slice i (length s) s)) where
   pub word_at_lem : words_of (drop i s) ≡ between s i p ∷ after words_of s p
   word_at_lem = part_at space words_of words_none words_of_lem s i p within ends
-
-  pub last_word : p ≡ length s → words_of (drop i s) ≡ between s i p ∷ []
-  last_word e = word_at_lem ∙ ap (λ r. between s i p ∷ r) (none_after words_of s p e)
-
-  pub next_word : p < length s → words_of (drop i s) ≡ between s i p ∷ words_of (drop (p + 1) s)
-  next_word h = word_at_lem ∙ ap (λ r. between s i p ∷ r) (some_after words_of s p h)
-
--- a line has a word, if only an empty one
-pub some_words : (s : List ℕ) → 0 < length (words_of s)
-some_words s = omega (arith, ap length (word_at_lem s {i = 0} {p = 0 + index_of space (slice 0 (length s) s)} (omega arith) refl))
-
--- a word after the first
-pub later_word : (w : List ℕ) (ws : List (List ℕ)) (n : ℕ) → 0 < n → word_at (w ∷ ws) n ≡ word_at ws (n - 1)
-later_word w ws zero h = let z : ⊥ = omega arith in absurd z
-later_word w ws (suc n) h = let e : n ≡ suc n - 1 = omega arith in ap (word_at ws) e

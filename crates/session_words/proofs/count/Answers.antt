@@ -1,14 +1,14 @@
--- One word more, by the laws of `Cuts`.
-use Rattle.std.proofs.Common.{◌<◌, length, ap, arith}
-use Rattle.session_words.proofs.Cuts.{last_word, next_word}
+-- The parts are counted that the line is split into.
+use Rattle.std.proofs.Common.{◌==◌, length, ap, ◌∙◌, rules, tests}
+use Rattle.std.proofs.lemmas.Iterator.Consumers.{count_from_yields_List}
+use Rattle.std.proofs.lemmas.Iterator.Splits.{YieldsList-from_slice_split}
+use Rattle.session_words.specs.Words.{space}
+use Rattle.session_words.proofs.Cuts.{words_are}
 use Rattle.session_words.proofs.count.Goals as goal
 
-pub returns-then-end-line : goal.returns-then-end-line
-returns-then-end-line c =
-    omega (arith, c.loop-at.invariant.2, ap length (last_word c.args.line.now c.loop-at.invariant.0 c.find-end.ensures.place c.if-end-line.true))
-
-pub loop-at-preserved : goal.loop-at-preserved
-loop-at-preserved c =
-    let inside : c.find-end.result < length c.args.line.now = omega arith in
-    let next = ap length (next_word c.args.line.now c.loop-at.invariant.0 c.find-end.ensures.place inside) in
-    (omega arith, omega arith, omega (arith, c.loop-at.invariant.2, next))
+pub returns : goal.returns
+returns c =
+    let s = c.split.ensures in
+    count_from_yields_List _ c.count.result c.count.ensures.ran
+    (YieldsList-from_slice_split _ (λ b. b == space) c.args.line.now s.rest s.done s.closure (λ x b q k. search (rules, tests)))
+    ∙ ap length (words_are c.args.line.now)

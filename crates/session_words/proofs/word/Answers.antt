@@ -1,32 +1,15 @@
--- The word at hand, or one of the rest, by the laws of `Cuts`.
-use Rattle.std.proofs.Common.{◌≡◌, ◌+◌, ◌<◌, [], length, drop, sym, ap, ◌∙◌, arith}
-use Rattle.session_words.specs.Words.{words_of, word_at}
-use Rattle.session_words.proofs.Cuts.{word_at_lem, last_word, next_word, later_word}
+-- The part is picked of those that the line is split into.
+use Rattle.std.proofs.Common.{◌==◌, ap, ◌∙◌, refl, rules, tests}
+use Rattle.std.specs.Borrow.{Bor}
+use Rattle.std.proofs.lemmas.Iterator.Consumers.{nth_from_yields_List}
+use Rattle.std.proofs.lemmas.Iterator.Splits.{YieldsList-from_slice_split}
+use Rattle.session_words.specs.Words.{space}
+use Rattle.session_words.proofs.Cuts.{picked}
 use Rattle.session_words.proofs.word.Goals as goal
-
-pub returns-then-end-line : goal.returns-then-end-line
-returns-then-end-line c =
-    let l = c.loop-left in
-    sym (l.invariant.1
-    ∙ ap (λ ws. word_at ws l.left) (last_word c.args.line.now l.invariant.0 c.find-end.ensures.place c.if-end-line.true)
-    ∙ later_word _ [] l.left c.loop-left-test.true)
-
-pub loop-left-preserved : goal.loop-left-preserved
-loop-left-preserved c =
-    let l = c.loop-left in
-    let line = c.args.line.now in
-    let inside : c.find-end.result < length line = omega arith in (
-      omega arith,
-      l.invariant.1
-          ∙ ap (λ ws. word_at ws l.left) (next_word line l.invariant.0 c.find-end.ensures.place inside)
-          ∙ later_word _ (words_of (drop (c.find-end.result + 1) line)) l.left c.loop-left-test.true,
-    )
 
 pub returns : goal.returns
 returns c =
-    let l = c.loop-left in
-    let line = c.args.line.now in
-    let first : l.left ≡ 0 = omega arith in
-    sym (l.invariant.1
-    ∙ ap (word_at (words_of (drop l.at line))) first
-    ∙ ap (λ ws. word_at ws 0) (word_at_lem line l.invariant.0 c.find-end-2.ensures.place))
+    let s = c.split.ensures in
+    let found = nth_from_yields_List c.nth.result _ c.args.k c.nth.ensures.ran
+    (YieldsList-from_slice_split _ (λ b. b == space) c.args.line.now s.rest s.done s.closure (λ x b q k. search (rules, tests))) in
+    ap (λ (r : Bor _). r.now) c.unwrap_or.ensures ∙ picked c.args.line.now c.args.k c.nth.result _ refl found
