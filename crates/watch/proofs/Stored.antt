@@ -14,9 +14,14 @@ use Rattle.watch_rules.specs.Record.{row_of, rows, track_of, unused, record_of, 
 use Rattle.watch_rules.proofs.Laws.{by_case, clash, and_left, and_right, or_true_right, channels_push}
 use Rattle.watch_rules.proofs.Encode.{track_read, tracks_read, watch_path}
 use Rattle.watch_rules.proofs.Calls.{formed_tracks, formed_long}
-use Rattle.watch_record.specs.Code.{nothing, place_of, channels_of}
+use Rattle.watch_record.specs.Code.{nothing, channels_of}
+use Rattle.watch_record.proofs.Places.{place_of}
+use Rattle.watch_record.proofs.Tracks.{one-more}
 use Rattle.watch_record.proofs.Watched.{place_in, member, as_many_lem}
-use Rattle.watch.specs.Code.{with_track}
+
+-- a watch with another track at place p
+abbrev pub with_track : Watch → ℕ → Track → Watch
+with_track w p t = record { watched = w.watched; tracks = set w.tracks p t; depth = w.depth }
 
 tracks_pushed : (d n c : ℕ) (x : ℤ) (ts : List Track) → tracks_fine d n ts ≡ true → mem c (channels_of (take n ts)) ≡ true
     → pad_to (length ts) unused (map track_of (push_at d c x (map row_of (take n ts))))
@@ -28,7 +33,7 @@ tracks_pushed d (suc n) c x (t ∷ ts) e h =
     let f : tracks_fine d n ts ≡ true = and_right (track_fine d t) (tracks_fine d n ts) e in
     by_case (eqb t.channel c)
     (λ q. rw q (ap (◌∷◌ (track_of (push d x (row_of t)))) (tracks_read d n ts f).padded))
-    (λ q. rw q
+    (λ q. rw (q, one-more)
     (ap₂ ◌∷◌ (track_read d t (and_left (track_fine d t) (tracks_fine d n ts) e)).back
     (tracks_pushed d n c x ts f (or_true_right (eqb t.channel c) (mem c (channels_of (take n ts))) h q))))
 

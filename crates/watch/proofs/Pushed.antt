@@ -1,14 +1,13 @@
--- A track with one more level. A track that is not full has room behind its levels; a full one moves them down by one, and its padding
--- stays. Both are the track of the row that the rules name, since a fine track is its levels with their padding.
+-- A track with one more level. A track that is not full has room behind its levels; of a full one the oldest goes round to the end, where the
+-- newest takes its place, and its padding stays. Both are the track of the row that the rules name, since a fine track is its levels with their padding.
 use Prim.Native.Nat.{ℕ, zero, suc, ◌+◌, ◌-◌, ◌≤◌, ◌<◌}
 use mathlib.Core.Path.{◌≡◌, refl, sym, ap, ap₂, ◌∙◌}
 use mathlib.Core.Bool.{true}
 use mathlib.Core.List.{List, [], ◌∷◌, ◌++◌, append_assoc}
 use native.Mathlib.Omega.{arith}
-use native.Mathlib.Numerals.{add-one}
 use lib.IntN.{ℤ, pos}
 use lib.ListN.{length, drop, take, get_or, set, length-append, length-drop}
-use lib.Seq.{drop-cons, take-suc, drop-append-le, set_at, take_at, drop_at, get_or-append-add, get_or-drop, length-take-le}
+use lib.Seq.{drop-append-le, set_at, drop_at, length-take-le}
 use Rattle.watch_rules.specs.declared.Track.{Track}
 use Rattle.watch_rules.specs.Lists.{last_n, pad_to}
 use Rattle.watch_rules.specs.Limits.{depth_in_range, capacity}
@@ -57,7 +56,7 @@ module _ (depth : ℕ) (t : Track) (x : ℤ) (fine : track_fine depth t ≡ true
       )
 
   pub pushed_full : depth ≤ t.count
-      → track_with t.channel t.count (take (depth - 1) (drop 1 t.levels) ++ x ∷ drop depth t.levels) ≡ track_of (push depth x (row_of t))
+      → track_with t.channel t.count (drop 1 (take depth t.levels) ++ x ∷ drop depth t.levels) ≡ track_of (push depth x (row_of t))
   unfolding kept
   pushed_full h =
       let d : length kept ≡ depth = omega (arith, counted, track_count depth t fine) in
@@ -69,10 +68,7 @@ module _ (depth : ℕ) (t : Track) (x : ℤ) (fine : track_fine depth t ≡ true
       let s : last_n depth (kept ++ x ∷ []) ≡ newest =
       ap (λ (j : ℕ). drop j (kept ++ x ∷ [])) e ∙ drop-append-le 1 kept (x ∷ []) (omega (arith, depth_low depth deep)) in
       let n : length newest ≡ depth = omega (arith, length-append (drop 1 kept) (x ∷ []), length-drop 1 kept, depth_low depth deep) in
-      let front : take (depth - 1) (drop 1 t.levels) ≡ drop 1 kept =
-      ap (λ (m : List ℤ). take (depth - 1) (drop 1 m)) l
-      ∙ ap (take (depth - 1)) (drop-append-le 1 kept z (omega (arith, depth_low depth deep)))
-      ∙ take_at (drop 1 kept) z (depth - 1) (omega (arith, length-drop 1 kept)) in
+      let front : drop 1 (take depth t.levels) ≡ drop 1 kept = ap (λ (k : ℕ). drop 1 (take k t.levels)) (sym d ∙ counted) in
       let behind : drop depth t.levels ≡ z = ap (drop depth) l ∙ drop_at kept z depth d in
       track_path refl
       (sym (ap length s ∙ n ∙ sym d ∙ counted))
@@ -83,36 +79,17 @@ module _ (depth : ℕ) (t : Track) (x : ℤ) (fine : track_fine depth t ≡ true
       ∙ sym (ap (pad_to capacity (pos 0)) s)
       )
 
--- the levels moved down by one, as far as i
-pub shift_step : (l u : List ℤ) (i : ℕ) → u ≡ take i (drop 1 l) ++ drop i l → i + 1 < length l
-    → set u i (get_or u (i + 1) (pos 0)) ≡ take (i + 1) (drop 1 l) ++ drop (i + 1) l
-shift_step l u i e h =
-    let a : List ℤ = take i (drop 1 l) in
-    let d : List ℤ = drop (suc i) l in
-    let y : ℤ = get_or l i (pos 0) in
-    let n : length a ≡ i = length-take-le i (drop 1 l) (omega (arith, length-drop 1 l)) in
-    let s : u ≡ a ++ y ∷ d = e ∙ ap (λ (m : List ℤ). a ++ m) (drop-cons l i (pos 0) (omega arith)) in
-    let v : get_or u (i + 1) (pos 0) ≡ get_or l (suc i + 0) (pos 0) =
-    ap₂ (λ (m : List ℤ) (j : ℕ). get_or m (j + 1) (pos 0)) s (sym n)
-    ∙ get_or-append-add a (y ∷ d) 1 (pos 0)
-    ∙ get_or-drop (suc i) l 0 (pos 0) in
-    let q : get_or (drop 1 l) i (pos 0) ≡ get_or l (suc i + 0) (pos 0) =
-    get_or-drop 1 l i (pos 0) ∙ ap (λ (j : ℕ). get_or l j (pos 0)) (sum i) in
-    ap₂ (λ (m : List ℤ) (z : ℤ). set m i z) s v
-    ∙ set_at a y d (get_or l (suc i + 0) (pos 0)) i n
-    ∙ ap (λ (z : ℤ). a ++ z ∷ d) (sym q)
-    ∙ sym (append_assoc a (get_or (drop 1 l) i (pos 0) ∷ []) d)
-    ∙ ap (λ (m : List ℤ). m ++ d) (sym (take-suc (drop 1 l) i (pos 0) (omega (arith, length-drop 1 l))))
-    ∙ ap (λ (j : ℕ). take j (drop 1 l) ++ drop j l) (sym (add-one i))
-  where
-    sum : (j : ℕ) → 1 + j ≡ suc j + 0
-    sum j = omega arith
+-- the oldest, gone round to the end, gives way to the newest
+first_of : (l : List ℤ) → 0 < length l → take 1 l ≡ get_or l 0 (pos 0) ∷ []
+first_of [] h = absurd (omega arith)
+first_of (y ∷ l) h = refl
 
--- and the newest behind them
-pub shift_end : (l u : List ℤ) (i : ℕ) (x : ℤ) → u ≡ take i (drop 1 l) ++ drop i l → i < length l
-    → set u i x ≡ take i (drop 1 l) ++ x ∷ drop (suc i) l
-shift_end l u i x e h =
-    let a : List ℤ = take i (drop 1 l) in
-    let n : length a ≡ i = length-take-le i (drop 1 l) (omega (arith, length-drop 1 l)) in
-    ap (λ (m : List ℤ). set m i x) (e ∙ ap (λ (m : List ℤ). a ++ m) (drop-cons l i (pos 0) h))
-    ∙ set_at a (get_or l i (pos 0)) (drop (suc i) l) x i n
+pub gone_round : (l d : List ℤ) (x : ℤ) (n : ℕ) → 0 < n → length l ≡ n → set ((drop 1 l ++ take 1 l) ++ d) (n - 1) x ≡ drop 1 l ++ x ∷ d
+gone_round l d x n h e =
+    ap (λ (m : List ℤ). set ((drop 1 l ++ m) ++ d) (n - 1) x) (first_of l (omega arith))
+    ∙ ap (λ (m : List ℤ). set m (n - 1) x) (append_assoc (drop 1 l) (get_or l 0 (pos 0) ∷ []) d)
+    ∙ set_at (drop 1 l) (get_or l 0 (pos 0)) d x (n - 1) (omega (arith, length-drop 1 l))
+
+-- there is room for the depth
+pub long_enough : (depth : ℕ) (t : Track) → track_fine depth t ≡ true → depth_in_range depth ≡ true → length (take depth t.levels) ≡ depth
+long_enough depth t fine deep = length-take-le depth t.levels (omega (arith, track_long depth t fine, depth_high depth deep))
