@@ -4,11 +4,11 @@ use mathlib.Core.Path.{ap₂}
 use Rattle.io.specs.Digits.{last_digits}
 use Rattle.session_texts.specs.Text.{room, said}
 use Rattle.session_texts.proofs.Writing.{eight}
-use Rattle.session_texts.proofs.with_bits.Goals as goal
+use Rattle.session_texts.proofs.Text.with_bits.Goals as goal
 
 pub returns : goal.returns
 returns c =
     let d = c.hex-k in
     let b = c.bits_of-bits in
-    let k : d.result ≡ 8 = eight b.result d.result (omega (arith, b.type_inv)) d.ensures.len in
-    c.with.ensures ∙ ap (λ x. take room (said c.args.text ++ x)) (d.ensures.digits ∙ ap₂ (last_digits 16) k b.ensures)
+    let k : d.result ≡ 8 = eight c.from.result d.result (omega (arith, b.type_inv, c.from.ensures)) d.ensures.len in
+    c.with.ensures ∙ ap (λ x. take room (said c.args.self ++ x)) (d.ensures.digits ∙ ap₂ (last_digits 16) k (c.from.ensures ∙ b.ensures))
