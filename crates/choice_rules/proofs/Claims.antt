@@ -13,7 +13,7 @@ use lib.IntN.{ℤ}
 use lib.Dec.{eqb}
 use borrow.Author.Tests.{eqb-true, eqb-false}
 use Rattle.refusal.specs.Told.{Told, gives, refused}
-use Rattle.refusal.proofs.OneToOne.{by_way_back, refusal_of, refusal_back, gives_refused}
+use Rattle.refusal.proofs.OneToOne.{told_as_differs, gives_refused}
 use Rattle.sweep_rules.specs.Record.{heard}
 use Rattle.sweep_rules.specs.declared.Sweep.{Sweep}
 use Rattle.sweep_rules.proofs.Tests.{clash}
@@ -23,7 +23,7 @@ use Rattle.choice_rules.specs.Order.{search_order, near_part}
 use Rattle.choice_rules.specs.Choose.{not_read, suitable, outcome_at, outcomes_fine, Chosen, camp, read, no_beam}
 use Rattle.choice_rules.specs.Choose.{chosen_among, chosen, choosing}
 use Rattle.choice_rules.specs.Code.{All}
-use Rattle.choice_rules.specs.Told.{told_choice}
+use Rattle.choice_rules.specs.Told.{chosen_of}
 use Rattle.choice_rules.specs.Claims.{Accepts, Passes, SearchOrderRule, NearPartRule, WithinMargin, Unsuitable, Named, TriedIsPlace}
 use Rattle.choice_rules.specs.Claims.{NoBeamExactly, UnheardBytes, AnswersDiffer, AnswersTold}
 use Rattle.choice_rules.proofs.Lists.{all_mem, mem_all, mem_at, all-at}
@@ -231,21 +231,19 @@ no_beam_exactly s m o a e =
 
 -- ---- each way back from what is told
 
-choice_from : Told Chosen → Choice
-choice_from (gives (camp c n)) = choice.Camp c n
-choice_from (gives (read c n)) = choice.Read c n
-choice_from (gives (no_beam n)) = choice.NoBeam n
-choice_from (refused n) = choice.Refused (refusal_of n)
+choice_from : Chosen → Choice
+choice_from (camp c n) = choice.Camp c n
+choice_from (read c n) = choice.Read c n
+choice_from (no_beam n) = choice.NoBeam n
 
-choice_back : (a : Choice) → choice_from (told_choice a) ≡ a
+choice_back : (a : Choice) → choice_from (chosen_of a) ≡ a
 unfolding choice_from
 choice_back (choice.Camp c n) = refl
 choice_back (choice.Read c n) = refl
 choice_back (choice.NoBeam n) = refl
-choice_back (choice.Refused r) = ap choice.Refused (refusal_back r)
 
 pub answers_differ : AnswersDiffer
-answers_differ = by_way_back told_choice choice_from choice_back
+answers_differ = told_as_differs chosen_of choice_from choice_back
 
 -- ---- each case is told as what it says
 

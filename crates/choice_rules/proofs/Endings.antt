@@ -9,14 +9,13 @@ use native.Mathlib.Omega.{arith}
 use lib.IntN.{ℤ}
 use Rattle.refusal.specs.declared.Refusal.{Refusal}
 use Rattle.refusal.specs.declared.Refusal.TheVariants.{SweepUnfinished, ParameterOutOfRange, OutcomesFaulty, RecordNotWellFormed}
-use Rattle.refusal.specs.Told.{gives, refused, refused_for}
+use Rattle.refusal.specs.Told.{Told, gives, refused, refused_for}
 use Rattle.refusal.proofs.OneToOne.{gives_refused}
 use Rattle.refusal.proofs.Provided.{same_reason}
-use Rattle.sweep_rules.specs.declared.NextChannel.{NextChannel}
-use Rattle.sweep_rules.specs.declared.NextChannel.TheVariants as next
+use Rattle.std.specs.Prelude.{Option, Some, None, Ok, Err}
 use Rattle.sweep_rules.specs.declared.Sweep.{Sweep}
 use Rattle.sweep_rules.specs.Record.{finished, well_formed}
-use Rattle.sweep_rules.specs.Next.{Next, done, next_of, next_told}
+use Rattle.sweep_rules.specs.Next.{Next, channel, done, next_of, next_told}
 use Rattle.sweep_rules.specs.Told.{told_next}
 use Rattle.sweep_rules.proofs.Tests.{which, fails}
 use Rattle.sweep_rules.proofs.Lowest.{finished_done}
@@ -60,30 +59,24 @@ module _ (s : Sweep) where
   told_unformed w = rw w
 
   -- a refusal of `sweep::next` is refusal 9
-  pub next_refused : (r : Refusal) → told_next (next.Refused r) ≡ next_told s → (m : ℤ) (o : List ℕ) → refused_for r ≡ choosing s m o
+  pub next_refused : (r : Refusal) → told_next (Err r) ≡ next_told s → (m : ℤ) (o : List ℕ) → refused_for r ≡ choosing s m o
   next_refused r e m o =
       let w = fails (well_formed s) (λ w. gives_refused (sym (e ∙ told_formed w))) in
       ap refused (same_reason refl (e ∙ told_unformed w)) ∙ says_9 s m o w
 
-  pub next_formed : (a : NextChannel) → told_next a ≡ next_told s → ((r : Refusal) → a ≡ next.Refused r → ⊥) → well_formed s ≡ true
-  next_formed a e k =
-      ⊎_elim (λ (w : well_formed s ≡ true). w) (λ (w : well_formed s ≡ false). absurd (by a (e ∙ told_unformed w) k)) (which (well_formed s))
-    where
-      by : (b : NextChannel) → told_next b ≡ refused_for RecordNotWellFormed → ((r : Refusal) → b ≡ next.Refused r → ⊥) → ⊥
-      by (next.Channel c) q t = gives_refused q
-      by next.Done q t = gives_refused q
-      by (next.Refused r) q t = t r refl
+  -- and it gives a channel, or none, of a well formed sweep alone
+  pub next_formed : (n : Option ℕ) → told_next (Ok n) ≡ next_told s → well_formed s ≡ true
+  next_formed n e =
+      ⊎_elim (λ (w : well_formed s ≡ true). w) (λ (w : well_formed s ≡ false). absurd (gives_refused (e ∙ told_unformed w))) (which (well_formed s))
 
-  pub next_unfinished : (a : NextChannel) → well_formed s ≡ true → told_next a ≡ next_told s → (a ≡ next.Done → ⊥) → finished s ≡ false
-  next_unfinished a w e k = fails (finished s) (λ d. by a (e ∙ told_formed w ∙ ap gives ((finished_done s).0 d)) k)
+  pub next_unfinished : (c : ℕ) → well_formed s ≡ true → told_next (Ok (Some c)) ≡ next_told s → finished s ≡ false
+  next_unfinished c w e = fails (finished s) (λ d. not_done (e ∙ told_formed w ∙ ap gives ((finished_done s).0 d)))
     where
-      by : (b : NextChannel) → told_next b ≡ gives done → (b ≡ next.Done → ⊥) → ⊥
-      by (next.Channel c) q t = let z : ◌≡◌ {A = ℕ} 0 1 = cc in omega arith
-      by next.Done q t = t refl
-      by (next.Refused r) q t = gives_refused (sym q)
+      not_done : ◌≡◌ {A = Told Next} (gives (channel c)) (gives done) → ⊥
+      not_done q = let z : ◌≡◌ {A = ℕ} 0 1 = cc in omega arith
 
-  pub next_finished : (a : NextChannel) → well_formed s ≡ true → told_next a ≡ next_told s → a ≡ next.Done → finished s ≡ true
-  next_finished a w e q = (finished_done s).1 (given (next_of s) (sym (told_formed w) ∙ sym e ∙ ap told_next q))
+  pub next_finished : well_formed s ≡ true → told_next (Ok None) ≡ next_told s → finished s ≡ true
+  next_finished w e = (finished_done s).1 (given (next_of s) (sym (told_formed w) ∙ sym e))
     where
       given : (n : Next) → gives n ≡ gives done → n ≡ done
       given n p = cc

@@ -1,6 +1,6 @@
 -- What is claimed of the choice beyond the call's contract, in document 01's words and numbers; each is proved in `proofs/` under its name
--- with a small first letter.
-use Rattle.std.specs.Prelude.{ℕ, suc, ◌≤◌, ◌<◌, ◌≡◌, Bool, true, ◌↔◌, ◌⊎◌, get_or, length, ℤ, pos, ◌-ℤ◌, ◌≤ℤ◌, ◌<ℤ◌}
+-- in snake case.
+use Rattle.std.specs.Prelude.{ℕ, suc, ◌≤◌, ◌<◌, ◌≡◌, Bool, true, ◌↔◌, ◌⊎◌, get_or, length, ℤ, pos, ◌-ℤ◌, ◌≤ℤ◌, ◌<ℤ◌, Ok, Err}
 use mathlib.Core.List.{List, Memᴰ, IsPrefix}
 use Rattle.refusal.specs.declared.Refusal.{Refusal}
 use Rattle.refusal.specs.declared.Reason.{Reason}
@@ -134,7 +134,7 @@ AnswersDiffer = OneToOne told_choice
 
 -- and each case is told as what it says, a refusal as its number and, where it has one, its place
 pub record AnswersTold : Type 0 where
-  pub camps : (c n : ℕ) → told_choice (choice.Camp c n) ≡ gives (camp c n)
-  pub reads : (c n : ℕ) → told_choice (choice.Read c n) ≡ gives (read c n)
-  pub none : (n : ℕ) → told_choice (choice.NoBeam n) ≡ gives (no_beam n)
-  pub refuses : (r : Refusal) → told_choice (choice.Refused r) ≡ refused (reason_of r)
+  pub camps : (c n : ℕ) → told_choice (Ok (choice.Camp c n)) ≡ gives (camp c n)
+  pub reads : (c n : ℕ) → told_choice (Ok (choice.Read c n)) ≡ gives (read c n)
+  pub none : (n : ℕ) → told_choice (Ok (choice.NoBeam n)) ≡ gives (no_beam n)
+  pub refuses : (r : Refusal) → told_choice (Err r) ≡ refused (reason_of r)

@@ -1,11 +1,15 @@
 -- The answer of a choice in document 01's terms: what is told of a refusal, or the values.
-use Rattle.refusal.specs.Told.{Told, refused_for, gives}
+use Rattle.std.specs.Prelude.{Result}
+use Rattle.refusal.specs.declared.Refusal.{Refusal}
+use Rattle.refusal.specs.Told.{Told, told_as}
 use Rattle.choice_rules.specs.Choose.{Chosen, camp, read, no_beam}
 use Rattle.choice_rules.specs.declared.Choice.{Choice}
 use Rattle.choice_rules.specs.declared.Choice.TheVariants as choice
 
-abbrev pub told_choice : Choice → Told Chosen
-told_choice (choice.Camp c n) = gives (camp c n)
-told_choice (choice.Read c n) = gives (read c n)
-told_choice (choice.NoBeam n) = gives (no_beam n)
-told_choice (choice.Refused r) = refused_for r
+abbrev pub chosen_of : Choice → Chosen
+chosen_of (choice.Camp c n) = camp c n
+chosen_of (choice.Read c n) = read c n
+chosen_of (choice.NoBeam n) = no_beam n
+
+abbrev pub told_choice : Result Choice Refusal → Told Chosen
+told_choice answer = told_as chosen_of answer

@@ -5,23 +5,12 @@
 ghost use Rattle.choice_rules.specs.Claims.{RefusalRule, SearchOrderRule, NearPartRule, TriedIsPlace};
 ghost use Rattle.choice_rules.specs.Claims.{NoBeamExactly, UnheardBytes, AnswersDiffer, AnswersTold};
 
-use refusal::Refusal;
-use sweep_rules::Sweep;
-
 // What is chosen: a channel to camp on or to read next, or no beam, each with the number of beams tried.
-#[derive(Clone, Copy)]
+#[derive(Clone, Copy, PartialEq, Eq)]
 pub enum Choice {
     Camp { channel: u16, tried: u32 },
     Read { channel: u16, tried: u32 },
     NoBeam { tried: u32 },
-    Refused(Refusal),
-}
-
-// A sweep and what is chosen over it.
-#[derive(Clone, Copy)]
-pub struct SweepChoice {
-    pub sweep: Sweep,
-    pub answer: Choice,
 }
 
 // Nothing to run: its contract is all that is claimed of the choice beyond the calls, so that the check asks for the proof of each.

@@ -1,21 +1,20 @@
 -- The claims of `specs/Claims.antt`. A call's result is followed through its tests; the two codes go through the laws to natural numbers; an
 -- answer is told one-to-one, as there is a way back.
-use mathlib.Core.Path.{◌≡◌, refl, sym, ap}
+use mathlib.Core.Path.{◌≡◌, refl, sym}
 use Prim.Native.Nat.{ℕ, zero, suc, ◌*◌, ◌/◌, ◌≤◌}
 use native.Mathlib.Nat.{div-mul-le_self, lt-div-mul-add, div-lt_iff_lt-mul, le-div_iff_mul-le, suc-mul}
 use native.Mathlib.Omega.{arith}
 use lib.Dec.{le→leb, leb→le}
 use lib.IntN.{ℤ, pos, negsuc, neg_ℤ, nat_abs, ◌*ℤ◌}
 use lib.Signed.{◌≤ℤ◌}
-use Rattle.refusal.specs.Told.{Told, refused, gives}
-use Rattle.refusal.proofs.OneToOne.{by_way_back, refusal_of, refusal_back, gives_refused}
+use Rattle.refusal.specs.Told.{refused, gives}
+use Rattle.refusal.proofs.OneToOne.{told_as_differs, gives_refused}
 use Rattle.power_rules.specs.declared.PowerParameters.{PowerParameters}
-use Rattle.power_rules.specs.declared.Answer.{Answer}
-use Rattle.power_rules.specs.declared.Answer.TheVariants.{Send, Refused}
+use Rattle.power_rules.specs.declared.Sent.{Sent}
 use Rattle.power_rules.specs.Constants.{numeric_highest}
 use Rattle.power_rules.specs.PowerSteps.{parameters_in_range, well_formed, fresh_with, pan_use, record_after, par_to_send, pan_to_send}
 use Rattle.power_rules.specs.Calls.{HandedBack, ToSend, started, tested, sending}
-use Rattle.power_rules.specs.Told.{told_answer}
+use Rattle.power_rules.specs.Told.{to_send}
 use Rattle.power_rules.specs.Refusals.{WellFormed}
 use Rattle.power_rules.specs.Claims.{StartsWellFormed, StaysWellFormed, RefusedKeepsRecord, TestKeepsRecord, WithinLimits, SendsWithinLimits, RoundsDown, AnswersTold, AnswersDiffer}
 use Rattle.power_rules.specs.Code.{above_lowest, par_at, pan_at}
@@ -91,17 +90,15 @@ rounds_down (negsuc a) d p = record { not_above = neg_le (suc (a / d) * d) a (om
     most (negsuc b) h = let k = (div-lt_iff_lt-mul {x = a} {y = suc b} p).1 (neg_ge (suc b * d) a h) in record { le = le→leb (a / d) b (omega arith) }
 
 -- ---- what is told fixes the answer
-answer_of : Told ToSend → Answer
-answer_of (refused n) = Refused (refusal_of n)
-answer_of (gives s) = Send (nat_abs s.par) (nat_abs s.pan)
+sent_of : ToSend → Sent
+sent_of s = record { par = nat_abs s.par; pan = nat_abs s.pan }
 
-answer_back : (a : Answer) → answer_of (told_answer a) ≡ a
-unfolding answer_of
-answer_back (Send par pan) = refl
-answer_back (Refused r) = ap Refused (refusal_back r)
+sent_back : (s : Sent) → sent_of (to_send s) ≡ s
+unfolding sent_of
+sent_back s = refl
 
 pub answers_told : AnswersTold
 answers_told = record { codes = λ par pan. refl; reason = λ why. refl }
 
 pub answers_differ : AnswersDiffer
-answers_differ = by_way_back told_answer answer_of answer_back
+answers_differ = told_as_differs to_send sent_of sent_back

@@ -1,5 +1,5 @@
--- What is claimed of the power steps beyond each call's contract; each is proved in `proofs/` under its name with a small first letter.
-use Rattle.std.specs.Prelude.{ℕ, ◌+◌, ◌*◌, ◌≤◌, ◌<◌, min, ◌≡◌, ◌↔◌, ℤ, pos, ◌-ℤ◌, ◌*ℤ◌, ◌≤ℤ◌, ◌<ℤ◌}
+-- What is claimed of the power steps beyond each call's contract; each is proved in `proofs/` under its name in snake case.
+use Rattle.std.specs.Prelude.{ℕ, ◌+◌, ◌*◌, ◌≤◌, ◌<◌, min, ◌≡◌, ◌↔◌, ℤ, pos, ◌-ℤ◌, ◌*ℤ◌, ◌≤ℤ◌, ◌<ℤ◌, Ok, Err}
 use Rattle.std.specs.Int.Signed.{shr_z}
 use Rattle.refusal.specs.declared.Refusal.{Refusal}
 use Rattle.refusal.specs.declared.Reason.{Reason}
@@ -12,7 +12,6 @@ use Rattle.power_rules.specs.declared.PowerParameters.{PowerParameters}
 use Rattle.power_rules.specs.declared.PowerRecord.{PowerRecord}
 use Rattle.power_rules.specs.declared.Decoded.{Decoded}
 use Rattle.power_rules.specs.declared.Decoded.TheVariants.{Failed, Codes}
-use Rattle.power_rules.specs.declared.Answer.TheVariants.{Send, Refused}
 use Rattle.power_rules.specs.Calls.{ToSend, started, tested, stepped}
 use Rattle.power_rules.specs.Refusals.{InRange, WellFormed, Refuses}
 use Rattle.power_rules.specs.Told.{told_answer}
@@ -122,8 +121,8 @@ StepRule = (p : PowerParameters) (r : PowerRecord) (d : Decoded) (sqi : ℤ) (s 
 
 -- an answer tells its codes, each under its name, and a refusal its number and, where it has one, its place
 pub record AnswersTold : Type 0 where
-  pub codes : (par pan : ℕ) → told_answer (Send par pan) ≡ gives (record { par = pos par; pan = pos pan })
-  pub reason : (why : Refusal) → told_answer (Refused why) ≡ refused (reason_of why)
+  pub codes : (par pan : ℕ) → told_answer (Ok (record { par = par; pan = pan })) ≡ gives (record { par = pos par; pan = pos pan })
+  pub reason : (why : Refusal) → told_answer (Err why) ≡ refused (reason_of why)
 
 -- what is told of an answer fixes its case and codes
 abbrev pub AnswersDiffer : Type 0

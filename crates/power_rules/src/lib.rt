@@ -4,11 +4,9 @@
 
 ghost use Rattle.power_rules.specs.Claims.{StartsWellFormed, StaysWellFormed, RefusedKeepsRecord, TestKeepsRecord, SendsWithinLimits, RoundsDown, RefusalRule, StartRule, StepRule, AnswersTold, AnswersDiffer};
 
-use refusal::{Outcome, Refusal};
-
 // The parameters, as codes.
 #[repr(C)]
-#[derive(Clone, Copy)]
+#[derive(Clone, Copy, PartialEq, Eq, Default)]
 pub struct PowerParameters {
     // The quality aimed at, by 0.1 dB.
     pub sqt: u32,
@@ -25,7 +23,7 @@ pub struct PowerParameters {
 
 // The power record: three codes, and the increase in thousandths of a dB.
 #[repr(C)]
-#[derive(Clone, Copy)]
+#[derive(Clone, Copy, PartialEq, Eq, Default)]
 pub struct PowerRecord {
     pub panlast: u32,
     pub parsave: u32,
@@ -33,32 +31,19 @@ pub struct PowerRecord {
     pub increase: u32,
 }
 
-// What decoding the other end's message gave.
-#[derive(Clone, Copy)]
+// What decoding the other end's message gave. An enum of its own and no `Option`: a message that failed is no missing one, and the rules of a
+// step name both cases.
+#[derive(Clone, Copy, PartialEq, Eq)]
 pub enum Decoded {
     Failed,
     Codes { pan: u32, par: u32 },
 }
 
-// What a step answers: the codes to send.
-#[derive(Clone, Copy)]
-pub enum Answer {
-    Send { par: u32, pan: u32 },
-    Refused(Refusal),
-}
-
-// A record, beside what a step answers.
-#[derive(Clone, Copy)]
-pub struct Stepped {
-    pub power: PowerRecord,
-    pub answer: Answer,
-}
-
-// A record, beside what a start or a test answers.
-#[derive(Clone, Copy)]
-pub struct Handed {
-    pub power: PowerRecord,
-    pub answer: Outcome,
+// What a step gives: the codes to send.
+#[derive(Clone, Copy, PartialEq, Eq)]
+pub struct Sent {
+    pub par: u32,
+    pub pan: u32,
 }
 
 // Nothing to run: its contract is all that is claimed of the power steps beyond the calls, so that the check asks for the proof of each.

@@ -57,7 +57,7 @@ burst_rule = record {
     one : (low high : ℤ) (x : Float) (m : Reason) → converted low high x ≡ refused m → m ≡ Alone 1
     one low high x m e = (((converts low high x).refuses m).0 e).0
 
-pub burst_1 : (b : Burst) (n : Reason) → burst_of b ≡ refused n → n ≡ Alone 1
+pub burst_1 : (b : Burst Float) (n : Reason) → burst_of b ≡ refused n → n ≡ Alone 1
 burst_1 (Heard r) n e = ((burst_rule.either r n).0 e).0
 burst_1 Missed n e = absurd (gives_refused e)
 
@@ -127,7 +127,7 @@ both_in (gives l) (gives q) f g = (f l refl, g q refl)
 both_in (gives l) (refused n) f g = tt
 both_in (refused n) q f g = tt
 
-pub burst_in_range_lem : (b : Burst) → InRange (burst_of b)
+pub burst_in_range_lem : (b : Burst Float) → InRange (burst_of b)
 burst_in_range_lem (Heard r) =
     both_in (level_of r.level) (quality_of r.quality) (converted_in level_low level_high r.level) (converted_in quality_low quality_high r.quality)
 burst_in_range_lem Missed = tt
@@ -138,8 +138,8 @@ burst_in_range b l q e =
     ((range_rule.level l).0 i.0, (range_rule.quality q).0 i.1)
 
 -- ---- for the code: a heard burst by what its two floats tell, and the range with it
-pub burst_is : {b : Burst} {r : Reading} {l q : Told ℤ} → b ≡ Heard r → l ≡ level_of r.level → q ≡ quality_of r.quality → both_of l q ≡ burst_of b
+pub burst_is : {b : Burst Float} {r : Reading Float} {l q : Told ℤ} → b ≡ Heard r → l ≡ level_of r.level → q ≡ quality_of r.quality → both_of l q ≡ burst_of b
 burst_is e f g = ap₂ both_of f g ∙ ap burst_of (sym e)
 
-pub in_range_too : (b : Burst) {t : Told BurstResult} → t ≡ burst_of b → (t ≡ burst_of b) × InRange t
+pub in_range_too : (b : Burst Float) {t : Told BurstResult} → t ≡ burst_of b → (t ≡ burst_of b) × InRange t
 in_range_too b e = (e, subst InRange (sym e) (burst_in_range_lem b))

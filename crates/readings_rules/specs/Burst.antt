@@ -1,5 +1,5 @@
 -- Document 01, section Readings: one result per burst, in hundredths, or refusal 1. Both floats of a heard burst are tested.
-use Rattle.std.specs.Prelude.{◌≡◌, true, ℤ}
+use Rattle.std.specs.Prelude.{◌≡◌, true, ℤ, Float}
 use Rattle.refusal.specs.Told.{Told, refused, gives}
 use Rattle.readings_rules.specs.declared.Burst.{Burst}
 use Rattle.readings_rules.specs.declared.Burst.TheVariants.{Heard, Missed}
@@ -17,7 +17,7 @@ both_of (gives level) (gives quality) = gives (heard level quality)
 both_of (gives level) (refused n) = refused n
 both_of (refused n) q = refused n
 
-abbrev pub burst_of : Burst → Told BurstResult
+abbrev pub burst_of : Burst Float → Told BurstResult
 burst_of (Heard r) = both_of (level_of r.level) (quality_of r.quality)
 burst_of Missed = gives missed
 

@@ -1,21 +1,17 @@
 -- What is claimed of the readings beyond each call's contract, in document 01's words: its numbers, `≤`, the exact float and the nearest whole
--- number, without the tests and workings of the other files. Each is proved in `proofs/` under its name with a small first letter.
-use Rattle.std.specs.Prelude.{ℕ, ◌*◌, ◌≤◌, ◌<◌, ◌≡◌, ◌↔◌, ◌⊎◌, Bool, true, false, T, ℤ, pos, neg_ℤ, ◌*ℤ◌, ◌≤ℤ◌, ◌<ℤ◌, Float}
+-- number, without the tests and workings of the other files. Each is proved in `proofs/` under its name in snake case.
+use Rattle.std.specs.Prelude.{ℕ, ◌*◌, ◌≤◌, ◌<◌, ◌≡◌, ◌↔◌, ◌⊎◌, Bool, true, false, T, ℤ, pos, neg_ℤ, ◌*ℤ◌, ◌≤ℤ◌, ◌<ℤ◌, Float, Ok, Err}
 use Rattle.std.specs.Float.{fin, binary32}
 use Rattle.std.specs.Float.Ieee.{up, down, fits}
 use Rattle.refusal.specs.declared.Refusal.{Refusal}
 use Rattle.refusal.specs.declared.Reason.{Reason}
 use Rattle.refusal.specs.declared.Reason.TheVariants.{Alone}
 use Rattle.refusal.specs.Number.{reason_of}
-use Rattle.refusal.specs.Told.{Told, refused, gives}
+use Rattle.refusal.specs.Told.{Told, refused, gives, told}
 use Rattle.refusal.specs.Claims.{OneToOne}
 use Rattle.readings_rules.specs.declared.Reading.{Reading}
 use Rattle.readings_rules.specs.declared.Burst.{Burst}
 use Rattle.readings_rules.specs.declared.Burst.TheVariants as burst
-use Rattle.readings_rules.specs.declared.Hundredths.TheVariants as hundredths
-use Rattle.readings_rules.specs.declared.Shown.TheVariants as shown
-use Rattle.readings_rules.specs.declared.ReadingHundredths.{ReadingHundredths}
-use Rattle.readings_rules.specs.declared.BurstHundredths.TheVariants as result
 use Rattle.readings_rules.specs.Ranges.{level_in_range, quality_in_range}
 use Rattle.readings_rules.specs.Channels.{channel_highest, channel_in_range}
 use Rattle.readings_rules.specs.Rounding.{distance, NearestLower, nearest_lower}
@@ -23,7 +19,7 @@ use Rattle.readings_rules.specs.Hundredths.{level_of, quality_of}
 use Rattle.readings_rules.specs.Float.{level_shown, quality_shown}
 use Rattle.readings_rules.specs.Back.{level_back, quality_back}
 use Rattle.readings_rules.specs.Burst.{heard, missed, burst_of}
-use Rattle.readings_rules.specs.Told.{told_hundredths, told_shown, told_burst}
+use Rattle.readings_rules.specs.Told.{told_burst}
 
 -- ---- the ranges
 
@@ -131,29 +127,29 @@ pub record ReadBack : Type 0 where
 -- "heard, with a level .. and a quality .., or missed with nothing"; "Both floats of a heard burst are tested"
 pub record BurstRule : Type 0 where
   pub nothing : burst_of burst.Missed ≡ gives missed
-  pub both : (r : Reading) (l q : ℤ) → (burst_of (burst.Heard r) ≡ gives (heard l q))
+  pub both : (r : Reading Float) (l q : ℤ) → (burst_of (burst.Heard r) ≡ gives (heard l q))
       ↔ ((level_of r.level ≡ gives l) × (quality_of r.quality ≡ gives q))
-  pub either : (r : Reading) (n : Reason) → (burst_of (burst.Heard r) ≡ refused n)
+  pub either : (r : Reading Float) (n : Reason) → (burst_of (burst.Heard r) ≡ refused n)
       ↔ ((n ≡ Alone 1) × ((level_of r.level ≡ refused (Alone 1)) ⊎ (quality_of r.quality ≡ refused (Alone 1))))
 
 -- what a burst gives in hundredths lies in the ranges
 abbrev pub BurstInRange : Type 0
-BurstInRange = (b : Burst) (l q : ℤ) → burst_of b ≡ gives (heard l q) → LevelInRange l × QualityInRange q
+BurstInRange = (b : Burst Float) (l q : ℤ) → burst_of b ≡ gives (heard l q) → LevelInRange l × QualityInRange q
 
 -- ---- answers
 
 -- an answer tells its values, and a refusal what is told of it: its number, and its place where it has one
 pub record AnswersTold : Type 0 where
-  pub value : (h : ℤ) → told_hundredths (hundredths.Value h) ≡ gives h
-  pub float : (x : Float) → told_shown (shown.Value x) ≡ gives x
-  pub reading : (r : ReadingHundredths) → told_burst (result.Heard r) ≡ gives (heard r.level r.quality)
-  pub nothing : told_burst result.Missed ≡ gives missed
-  pub no_value : (why : Refusal) → told_hundredths (hundredths.Refused why) ≡ refused (reason_of why)
-  pub no_float : (why : Refusal) → told_shown (shown.Refused why) ≡ refused (reason_of why)
-  pub no_reading : (why : Refusal) → told_burst (result.Refused why) ≡ refused (reason_of why)
+  pub value : (h : ℤ) → told (Ok h) ≡ gives h
+  pub float : (x : Float) → told (Ok x) ≡ gives x
+  pub reading : (r : Reading ℤ) → told_burst (Ok (burst.Heard r)) ≡ gives (heard r.level r.quality)
+  pub nothing : told_burst (Ok burst.Missed) ≡ gives missed
+  pub no_value : (why : Refusal) → told {A = ℤ} (Err why) ≡ refused (reason_of why)
+  pub no_float : (why : Refusal) → told {A = Float} (Err why) ≡ refused (reason_of why)
+  pub no_reading : (why : Refusal) → told_burst (Err why) ≡ refused (reason_of why)
 
 -- what is told of an answer fixes its case and values
 pub record AnswersDiffer : Type 0 where
-  pub hundredths : OneToOne told_hundredths
-  pub shown : OneToOne told_shown
+  pub hundredths : OneToOne (told {A = ℤ})
+  pub shown : OneToOne (told {A = Float})
   pub burst : OneToOne told_burst

@@ -5,49 +5,18 @@
 ghost use Rattle.readings_rules.specs.Claims.{RangeRule, RoundingRule, ConversionRule, ShownRule, ReadBack, BurstRule, BurstInRange};
 ghost use Rattle.readings_rules.specs.Claims.{AnswersTold, AnswersDiffer};
 
-use refusal::Refusal;
-
-// What the modem measures in a burst that it hears: a level in dBm and a quality in dB.
+// What the modem measures in a burst that it hears: a level and a quality, as floats in dBm and dB, or in hundredths of these.
 #[derive(Clone, Copy)]
-pub struct Reading {
-    pub level: f32,
-    pub quality: f32,
+pub struct Reading<T = f32> {
+    pub level: T,
+    pub quality: T,
 }
 
-// The modem's result for one burst.
+// The modem's result for one burst, in floats or in hundredths. An enum of its own and no `Option`: the paper names both of its cases.
 #[derive(Clone, Copy)]
-pub enum Burst {
-    Heard(Reading),
+pub enum Burst<T = f32> {
+    Heard(Reading<T>),
     Missed,
-}
-
-// A level or a quality in hundredths.
-#[derive(Clone, Copy)]
-pub enum Hundredths {
-    Value(i32),
-    Refused(Refusal),
-}
-
-// Hundredths shown as a float, in dBm or dB.
-#[derive(Clone, Copy)]
-pub enum Shown {
-    Value(f32),
-    Refused(Refusal),
-}
-
-// A reading in hundredths.
-#[derive(Clone, Copy)]
-pub struct ReadingHundredths {
-    pub level: i32,
-    pub quality: i32,
-}
-
-// A burst's result in hundredths.
-#[derive(Clone, Copy)]
-pub enum BurstHundredths {
-    Heard(ReadingHundredths),
-    Missed,
-    Refused(Refusal),
 }
 
 // The ends of the ranges: a level in whole dBm, a quality in whole dB.

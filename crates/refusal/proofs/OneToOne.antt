@@ -7,10 +7,9 @@ use Rattle.refusal.specs.declared.Refusal.{Refusal}
 use Rattle.refusal.specs.declared.Refusal.TheVariants.{ReadingOutOfRange, ChannelOutOfRange, ChannelVisited, SweepUnfinished, NotWatched, ParameterOutOfRange, OutcomesFaulty, RecordNotWellFormed, ListTooLong, ListedOutOfRange, ListedAgain, ListedServing}
 use Rattle.refusal.specs.declared.Reason.{Reason}
 use Rattle.refusal.specs.declared.Reason.TheVariants.{Alone, At}
-use Rattle.refusal.specs.declared.Outcome.{Outcome}
-use Rattle.refusal.specs.declared.Outcome.TheVariants.{Accepted, Refused}
+use Rattle.std.specs.Prelude.{Result, Ok, Err}
 use Rattle.refusal.specs.Number.{reason_of}
-use Rattle.refusal.specs.Told.{Told, refused, gives, told_outcome}
+use Rattle.refusal.specs.Told.{Told, refused, gives, told, told_as}
 use Rattle.refusal.specs.Claims.{OneToOne, ReasonsDiffer, OutcomesDiffer}
 
 pub by_way_back : {A B : Type 0} (f : A → B) (back : B → A) → ((a : A) → back (f a) ≡ a) → OneToOne f
@@ -59,17 +58,30 @@ refusal_back (ListedServing p) = refl
 pub reasons_differ : ReasonsDiffer
 reasons_differ = by_way_back reason_of refusal_of refusal_back
 
-outcome_of : Told Unit → Outcome
-outcome_of (refused n) = Refused (refusal_of n)
-outcome_of (gives u) = Accepted
+-- the answer of which this is told, by the value in the library's words
+unfoldable pub answer_of : {A B : Type 0} → (B → A) → Told B → Result A Refusal
+answer_of value (refused n) = Err (refusal_of n)
+answer_of value (gives b) = Ok (value b)
 
-outcome_back : (o : Outcome) → outcome_of (told_outcome o) ≡ o
-unfolding outcome_of
-outcome_back Accepted = refl
-outcome_back (Refused r) = ap Refused (refusal_back r)
+pub answer_back : {A B : Type 0} (words : A → B) (value : B → A) → ((a : A) → value (words a) ≡ a) → (r : Result A Refusal)
+    → answer_of value (told_as words r) ≡ r
+unfolding answer_of
+answer_back words value h (Ok a) = ap Ok (h a)
+answer_back words value h (Err r) = ap Err (refusal_back r)
+
+-- what is told of an answer fixes it where document 01's words fix its values
+pub told_as_differs : {A B : Type 0} (words : A → B) (value : B → A) → ((a : A) → value (words a) ≡ a) → OneToOne (told_as words)
+told_as_differs words value h = by_way_back (told_as words) (answer_of value) (answer_back words value h)
+
+same_told : {A : Type 0} (r : Result A Refusal) → told r ≡ told_as (λ (a : A). a) r
+same_told (Ok a) = refl
+same_told (Err r) = refl
+
+pub told_differs : {A : Type 0} → OneToOne (told {A = A})
+told_differs {A} a b e = told_as_differs (λ (x : A). x) (λ (x : A). x) (λ x. refl) a b (sym (same_told a) ∙ e ∙ same_told b)
 
 pub outcomes_differ : OutcomesDiffer
-outcomes_differ = by_way_back told_outcome outcome_of outcome_back
+outcomes_differ = told_differs
 
 -- an accepted answer is no refusal
 Given : {A : Type 0} → Told A → Type 0

@@ -3,7 +3,7 @@ use Rattle.std.specs.Prelude.{ℕ, ◌≡◌, ◌↔◌, true, false}
 use Rattle.refusal.specs.declared.Refusal.{Refusal}
 use Rattle.refusal.specs.declared.Reason.{Reason}
 use Rattle.refusal.specs.Number.{reason_of, number_of}
-use Rattle.refusal.specs.Told.{Told, refused, gives, accepted, told_outcome, provided, acceptance, giving, unless_refused, hands_back, leaves}
+use Rattle.refusal.specs.Told.{Told, refused, gives, accepted, told, provided, acceptance, giving, unless_refused, hands_back, leaves}
 
 -- a definition that gives two cases the same value does so only for a case and itself: what is told fixes the case
 abbrev pub OneToOne : {A B : Type 0} → (A → B) → Type 0
@@ -13,9 +13,9 @@ OneToOne {A} f = (a b : A) → f a ≡ f b → a ≡ b
 abbrev pub ReasonsDiffer : Type 0
 ReasonsDiffer = OneToOne reason_of
 
--- what is told of an outcome fixes it
+-- what is told of a call that gives no value fixes its answer
 abbrev pub OutcomesDiffer : Type 0
-OutcomesDiffer = OneToOne told_outcome
+OutcomesDiffer = OneToOne (told {A = Unit})
 
 -- no number is 0, so that hosts can tell an accepted call by it; "5 is no longer given"
 pub record NumbersRule : Type 0 where

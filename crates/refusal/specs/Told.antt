@@ -1,10 +1,8 @@
 -- What a call answers, in document 01's terms: what is told of a refusal, or the values of an accepted call.
--- Every crate maps its answers to these by a definition `told..`, and its contracts speak of an answer through that definition.
-use Rattle.std.specs.Prelude.{Bool, true, false}
+-- Contracts speak of an answer through these: by `told`, or by a definition `told..` where document 01 has other words for the values.
+use Rattle.std.specs.Prelude.{Bool, true, false, Result, Ok, Err}
 use Rattle.refusal.specs.declared.Refusal.{Refusal}
 use Rattle.refusal.specs.declared.Reason.{Reason}
-use Rattle.refusal.specs.declared.Outcome.{Outcome}
-use Rattle.refusal.specs.declared.Outcome.TheVariants.{Accepted, Refused}
 use Rattle.refusal.specs.Number.{reason_of}
 
 -- what is told of a refusal, or values of the type A
@@ -20,9 +18,15 @@ refused_for r = refused (reason_of r)
 abbrev pub accepted : Told Unit
 accepted = gives tt
 
-abbrev pub told_outcome : Outcome → Told Unit
-told_outcome Accepted = accepted
-told_outcome (Refused r) = refused_for r
+-- what is told of an answer: the values that an accepted call gives, or what is told of its refusal
+abbrev pub told : {A : Type 0} → Result A Refusal → Told A
+told (Ok value) = gives value
+told (Err r) = refused_for r
+
+-- the same, with the values in document 01's words
+abbrev pub told_as : {A B : Type 0} → (A → B) → Result A Refusal → Told B
+told_as words (Ok value) = gives (words value)
+told_as words (Err r) = refused_for r
 
 -- ---- this answer, or this refusal
 

@@ -6,7 +6,7 @@ ghost use Rattle.refusal.specs.Number.{reason_of, number_of};
 ghost use Rattle.refusal.specs.Claims.{ReasonsDiffer, OutcomesDiffer, NumbersRule, ToldRule, HandedRule};
 
 // A place is counted from 0.
-#[derive(Clone, Copy)]
+#[derive(Clone, Copy, PartialEq, Eq)]
 pub enum Refusal {
     // 1: a level or quality, as a float or in hundredths, is outside its range
     ReadingOutOfRange,
@@ -35,47 +35,49 @@ pub enum Refusal {
 }
 
 // What is told of a refusal: its number alone, or its number at a place.
-#[derive(Clone, Copy)]
+#[derive(Clone, Copy, PartialEq, Eq)]
 pub enum Reason {
     Alone(u32),
     At { number: u32, place: u32 },
 }
 
-// What a call that gives no value answers.
-#[derive(Clone, Copy)]
-pub enum Outcome {
-    Accepted,
-    Refused(Refusal),
-}
+impl Refusal {
+    // What is told of the refusal.
+    pub fn told(self) -> Reason
+        ensures { result ≡ reason_of self }
+    {
+        match self {
+            Refusal::ReadingOutOfRange => Reason::Alone(1),
+            Refusal::ChannelOutOfRange => Reason::Alone(2),
+            Refusal::ChannelVisited => Reason::Alone(3),
+            Refusal::SweepUnfinished => Reason::Alone(4),
+            Refusal::NotWatched => Reason::Alone(6),
+            Refusal::ParameterOutOfRange => Reason::Alone(7),
+            Refusal::OutcomesFaulty => Reason::Alone(8),
+            Refusal::RecordNotWellFormed => Reason::Alone(9),
+            Refusal::ListTooLong => Reason::Alone(11),
+            Refusal::ListedOutOfRange(place) => Reason::At { number: 12, place },
+            Refusal::ListedAgain(place) => Reason::At { number: 13, place },
+            Refusal::ListedServing(place) => Reason::At { number: 14, place },
+        }
+    }
 
-// What is told of the refusal.
-pub fn told(r: Refusal) -> Reason
-    ensures { result ≡ reason_of r }
-{
-    match r {
-        Refusal::ReadingOutOfRange => Reason::Alone(1),
-        Refusal::ChannelOutOfRange => Reason::Alone(2),
-        Refusal::ChannelVisited => Reason::Alone(3),
-        Refusal::SweepUnfinished => Reason::Alone(4),
-        Refusal::NotWatched => Reason::Alone(6),
-        Refusal::ParameterOutOfRange => Reason::Alone(7),
-        Refusal::OutcomesFaulty => Reason::Alone(8),
-        Refusal::RecordNotWellFormed => Reason::Alone(9),
-        Refusal::ListTooLong => Reason::Alone(11),
-        Refusal::ListedOutOfRange(place) => Reason::At { number: 12, place },
-        Refusal::ListedAgain(place) => Reason::At { number: 13, place },
-        Refusal::ListedServing(place) => Reason::At { number: 14, place },
+    // The refusal's number.
+    pub fn number(self) -> u32
+        ensures { result ≡ number_of self }
+    {
+        match self.told() {
+            Reason::Alone(number) => number,
+            Reason::At { number, place: _ } => number,
+        }
     }
 }
 
-// The refusal's number.
-pub fn number(r: Refusal) -> u32
-    ensures { result ≡ number_of r }
-{
-    match told(r) {
-        Reason::Alone(number) => number,
-        Reason::At { number, place: _ } => number,
-    }
+// What a call hands back: a record, beside its answer. Refused, it is the very record that the call was given.
+#[derive(Clone, Copy, PartialEq, Eq)]
+pub struct Handed<R, A> {
+    pub state: R,
+    pub answer: Result<A, Refusal>,
 }
 
 // Nothing to run: its contract is what is claimed of the refusals, so that the check asks for the proof of each.

@@ -1,4 +1,5 @@
 -- What the definitions of filing come to in each case.
+use Rattle.std.specs.Prelude.{Float}
 use Prim.Native.Nat.{ℕ}
 use mathlib.Core.Path.{◌≡◌, refl, sym, ap, ◌∙◌}
 use mathlib.Core.Bool.{true, false}
@@ -7,7 +8,7 @@ use lib.ListN.{set}
 use lib.IntN.{ℤ}
 use Rattle.refusal.specs.declared.Refusal.TheVariants.{ChannelOutOfRange, ChannelVisited, RecordNotWellFormed}
 use Rattle.refusal.specs.declared.Reason.{Reason}
-use Rattle.refusal.specs.Told.{Told, refused, gives, refused_for, accepted, acceptance, told_outcome}
+use Rattle.refusal.specs.Told.{Told, refused, gives, refused_for, accepted, acceptance, told}
 use Rattle.refusal.proofs.OneToOne.{gives_refused}
 use Rattle.refusal.proofs.Provided.{same_reason}
 use Rattle.readings_rules.specs.declared.Burst.{Burst}
@@ -17,7 +18,7 @@ use Rattle.sweep_rules.specs.Map.{with_bit}
 use Rattle.sweep_rules.specs.Record.{swept, visited, well_formed}
 use Rattle.sweep_rules.specs.Filing.{with_missed, with_heard, with_burst, filing, leaves}
 use Rattle.sweep_rules.specs.declared.Sweep.{Sweep}
-use Rattle.sweep_rules.specs.declared.SweepOutcome.{SweepOutcome}
+use Rattle.refusal.specs.declared.Handed.{Handed}
 
 -- ---- the record made of its parts
 
@@ -32,7 +33,7 @@ heard_is s c level y v h e p q = rw (e, p, q)
 
 -- ---- refusals, in their order
 
-module _ (s : Sweep) (c : ℕ) (b : Burst) where
+module _ (s : Sweep) (c : ℕ) (b : Burst Float) where
   pub file_9 : well_formed s ≡ false → filing s c b ≡ refused_for RecordNotWellFormed
   unfolding filing
   file_9 w = rw w
@@ -71,11 +72,11 @@ by_burst s c (refused m) n e = ap refused (same_reason refl e)
 
 -- ---- what a call hands back
 
-module _ (s : Sweep) (t : Told Sweep) (r : SweepOutcome) where
-  pub hands_refused : (n : Reason) → t ≡ refused n → (r.sweep ≡ s) × (told_outcome r.answer ≡ refused n)
-      → (r.sweep ≡ leaves s t) × (told_outcome r.answer ≡ acceptance t)
+module _ (s : Sweep) (t : Told Sweep) (r : Handed Sweep Unit) where
+  pub hands_refused : (n : Reason) → t ≡ refused n → (r.state ≡ s) × (told r.answer ≡ refused n)
+      → (r.state ≡ leaves s t) × (told r.answer ≡ acceptance t)
   hands_refused n e h = (h.0 ∙ sym (ap (leaves s) e), h.1 ∙ sym (ap acceptance e))
 
-  pub hands_accepted : (u : Sweep) → t ≡ gives u → (r.sweep ≡ u) × (told_outcome r.answer ≡ accepted)
-      → (r.sweep ≡ leaves s t) × (told_outcome r.answer ≡ acceptance t)
+  pub hands_accepted : (u : Sweep) → t ≡ gives u → (r.state ≡ u) × (told r.answer ≡ accepted)
+      → (r.state ≡ leaves s t) × (told r.answer ≡ acceptance t)
   hands_accepted u e h = (h.0 ∙ sym (ap (leaves s) e), h.1 ∙ sym (ap acceptance e))

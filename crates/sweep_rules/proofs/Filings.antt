@@ -1,5 +1,6 @@
 -- Every list of filings from a fresh record. A list grows at its end; by the rule of one filing an accepted one is one bit more in each map that it
 -- marks, and changes no level but its channel's, so the record shows exactly the accepted filings.
+use Rattle.std.specs.Prelude.{Float}
 use Prim.Native.Nat.{ℕ, zero, suc, ◌/◌, ◌%◌, ◌≤◌, ◌<◌}
 use mathlib.Core.Path.{◌≡◌, refl, sym, ap, ◌∙◌, subst}
 use mathlib.Core.Bool.{true, false}
@@ -38,21 +39,21 @@ zero_in = (range_rule.level (pos 0)).0 refl
 
 -- ---- an accepted filing leaves a well formed record
 
-module _ (s : Sweep) (c : ℕ) (b : Burst) (t : Sweep) (P : Passed s c) (F : Filed s c b t) where
+module _ (s : Sweep) (c : ℕ) (b : Burst Float) (t : Sweep) (P : Passed s c) (F : Filed s c b t) where
   -- by the burst
-  heard_more : (x : Burst) → b ≡ x → (d : ℕ) → heard t d ≡ true → (heard s d ≡ true) ⊎ (d ≡ c)
+  heard_more : (x : Burst Float) → b ≡ x → (d : ℕ) → heard t d ≡ true → (heard s d ≡ true) ⊎ (d ≡ c)
   heard_more (Heard r) is d h = (F.hears r is d).0 h
   heard_more Missed is d h = inl (sym (F.misses is d) ∙ h)
 
-  heard_still : (x : Burst) → b ≡ x → (d : ℕ) → heard s d ≡ true → heard t d ≡ true
+  heard_still : (x : Burst Float) → b ≡ x → (d : ℕ) → heard s d ≡ true → heard t d ≡ true
   heard_still (Heard r) is d h = (F.hears r is d).1 (inl h)
   heard_still Missed is d h = F.misses is d ∙ h
 
-  other_level : (x : Burst) → b ≡ x → (d : ℕ) → ¬ (d ≡ c) → level_at t d ≡ level_at s d
+  other_level : (x : Burst Float) → b ≡ x → (d : ℕ) → ¬ (d ≡ c) → level_at t d ≡ level_at s d
   other_level (Heard r) is d n = F.level_kept r is d n
   other_level Missed is d n = F.levels_kept is d
 
-  own_level : (x : Burst) → b ≡ x → LevelInRange (level_at t c) × (heard t c ≡ false → level_at t c ≡ pos 0)
+  own_level : (x : Burst Float) → b ≡ x → LevelInRange (level_at t c) × (heard t c ≡ false → level_at t c ≡ pos 0)
   own_level (Heard r) is = (
     (range_rule.level (level_at t c)).0 (converted_in level_low level_high r.level (level_at t c) (F.level_stored r is)),
     λ n. absurd (clash ((F.hears r is c).1 (inr refl)) n),
@@ -144,7 +145,7 @@ record Shows (s : Sweep) (accepted : List Filing) : Type 0 where
   formed : WellFormed s
   visits : Marks s.visited accepted
   hears : Marks s.heard (heard_of accepted)
-  levels : (f : Filing) (r : Reading) → Memᴰ f accepted → f.burst ≡ Heard r → level_of r.level ≡ gives (level_at s f.channel)
+  levels : (f : Filing) (r : Reading Float) → Memᴰ f accepted → f.burst ≡ Heard r → level_of r.level ≡ gives (level_at s f.channel)
 
 -- one accepted filing more
 module _ (s : Sweep) (fs : List Filing) (S : Shows s fs) (f : Filing) (A : Accepts s f.channel f.burst) where
@@ -163,7 +164,7 @@ module _ (s : Sweep) (fs : List Filing) (S : Shows s fs) (f : Filing) (A : Accep
   silent : heard s f.channel ≡ false
   silent = not_heard s ((well_formed_rule s).1 S.formed) f.channel low P.clear
 
-  hears_after : (b : Burst) → f.burst ≡ b → Marks t.heard (heard_of (fs ++ (f ∷ [])))
+  hears_after : (b : Burst Float) → f.burst ≡ b → Marks t.heard (heard_of (fs ++ (f ∷ [])))
   hears_after (Heard r) is =
       subst (Marks t.heard) (sym (sequence_rule.one_heard fs f r is)) (marks_more s.heard t.heard (heard_of fs) f S.hears low silent (F.hears r is))
   hears_after Missed is =
@@ -180,7 +181,7 @@ module _ (s : Sweep) (fs : List Filing) (S : Shows s fs) (f : Filing) (A : Accep
           (λ (k : Memᴰ g l). Memᴰ.tail (mem-map l k))
           (Memᴰ.cases_cons j)
 
-  levels_after : (g : Filing) (r : Reading) → Memᴰ g (fs ++ (f ∷ [])) → g.burst ≡ Heard r → level_of r.level ≡ gives (level_at t g.channel)
+  levels_after : (g : Filing) (r : Reading Float) → Memᴰ g (fs ++ (f ∷ [])) → g.burst ≡ Heard r → level_of r.level ≡ gives (level_at t g.channel)
   levels_after g r i is = ⊎_elim
       (λ (j : Memᴰ g fs).
       S.levels g r j is ∙ ap gives (sym (other_level s f.channel f.burst t P F f.burst refl g.channel (filed_before g j))))

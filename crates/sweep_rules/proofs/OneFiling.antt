@@ -1,5 +1,6 @@
 -- What one filing does to a record. The tests passed, it sets the bit of its channel in each map that it marks, which changes no other bit, and
 -- stores a level at no other place.
+use Rattle.std.specs.Prelude.{Float}
 use Prim.Native.Nat.{ℕ, ◌≤◌, ◌<◌}
 use mathlib.Core.Path.{◌≡◌, refl, sym, ap, ◌∙◌, subst}
 use mathlib.Core.Bool.{Bool, true, false, ◌||◌}
@@ -49,13 +50,13 @@ marked m c d long low = (
     back (inl e) = or_right (eqb d c) (is_set m d) e
     back (inr q) = or_left (eqb d c) (is_set m d) (eq-eqb d c q)
 
-same_reading : (b : Burst) (r q : Reading) → b ≡ Heard r → b ≡ Heard q → q ≡ r
+same_reading : (b : Burst Float) (r q : Reading Float) → b ≡ Heard r → b ≡ Heard q → q ≡ r
 same_reading b r q d e = cc
 
-pub heard_missed : {b : Burst} {r : Reading} → b ≡ Heard r → b ≡ Missed → ⊥
+pub heard_missed : {b : Burst Float} {r : Reading Float} → b ≡ Heard r → b ≡ Missed → ⊥
 heard_missed p q = let z : ◌≡◌ {A = ℕ} 0 1 = cc in omega arith
 
-module _ (s : Sweep) (c : ℕ) (b : Burst) (typed : Typed s) (low : c < 1088) where
+module _ (s : Sweep) (c : ℕ) (b : Burst Float) (typed : Typed s) (low : c < 1088) where
   missed_filed : WellFormed s → visited s c ≡ false → b ≡ Missed → Filed s c b (with_missed s c)
   unfolding with_missed
   missed_filed w clear is = record {
@@ -69,13 +70,13 @@ module _ (s : Sweep) (c : ℕ) (b : Burst) (typed : Typed s) (low : c < 1088) wh
     typed = record { levels = typed.levels; visited = length_with s.visited c ∙ typed.visited; heard = typed.heard };
   }
 
-  heard_filed : (r : Reading) (level : ℤ) → b ≡ Heard r → level_of r.level ≡ gives level → Filed s c b (with_heard s c level)
+  heard_filed : (r : Reading Float) (level : ℤ) → b ≡ Heard r → level_of r.level ≡ gives level → Filed s c b (with_heard s c level)
   unfolding with_heard
   heard_filed r level is e = record {
     visits = λ d. marked s.visited c d typed.visited low;
     hears = λ r2 q d. marked s.heard c d typed.heard low;
     level_stored = λ r2 q.
-        ap (λ (x : Reading). level_of x.level) (same_reading b r r2 is q)
+        ap (λ (x : Reading Float). level_of x.level) (same_reading b r r2 is q)
         ∙ e
         ∙ ap gives (sym (get_or-set_same s.levels c level (pos 0) (subst (λ (n : ℕ). c < n) (sym typed.levels) low)));
     level_kept = λ r2 q d n. get_or-set_other s.levels c d level (pos 0) n;
@@ -96,7 +97,7 @@ pub record Passed (s : Sweep) (c : ℕ) : Type 0 where
   pub inside : (2 ≤ c) × (c ≤ 1086)
   pub clear : visited s c ≡ false
 
-module _ (s : Sweep) (c : ℕ) (b : Burst) where
+module _ (s : Sweep) (c : ℕ) (b : Burst Float) where
   -- where the table has no number
   pub passed : Accepts s c b → Passed s c
   passed A = record { formed = w; inside = (least, most); clear = clear }
@@ -127,7 +128,7 @@ module _ (s : Sweep) (c : ℕ) (b : Burst) where
     low : c < 1088
     low = omega (arith, P.inside.1)
 
-    by_burst : (x : Burst) → b ≡ x → (t : Sweep) → with_burst s c (burst_of x) ≡ gives t → Filed s c b t
+    by_burst : (x : Burst Float) → b ≡ x → (t : Sweep) → with_burst s c (burst_of x) ≡ gives t → Filed s c b t
     unfolding with_burst
     by_burst (Heard r) is t e = by (level_of r.level) (quality_of r.quality) refl e
       where

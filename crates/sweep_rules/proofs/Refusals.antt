@@ -1,4 +1,5 @@
 -- The refusals in document 01's words. A test that fails names the row of the table, and a row decides the tests.
+use Rattle.std.specs.Prelude.{Float}
 use Prim.Native.Nat.{ℕ, ◌≤◌}
 use mathlib.Core.Path.{◌≡◌, refl, sym, ap, ◌∙◌, subst}
 use mathlib.Core.Bool.{Bool, true, false, ◌&&◌}
@@ -31,12 +32,12 @@ use Rattle.sweep_rules.proofs.ReadCalls.{fails, says_no, only_9, next-is, counts
 
 -- ---- a filing
 
-module _ (s : Sweep) (c : ℕ) (b : Burst) where
+module _ (s : Sweep) (c : ℕ) (b : Burst Float) where
   row_is : {a n : Reason} → filing s c b ≡ refused n → filing s c b ≡ refused a → Refuses s c b a → Refuses s c b n
   row_is e q row = subst (Refuses s c b) (same_reason q e) row
 
   -- by the readings' rules: one of its two floats is outside its range
-  burst_row : WellFormed s → 2 ≤ c → c ≤ 1086 → visited s c ≡ false → (x : Burst) → b ≡ x → (n : Reason) → burst_of x ≡ refused n → Refuses s c b n
+  burst_row : WellFormed s → 2 ≤ c → c ≤ 1086 → visited s c ≡ false → (x : Burst Float) → b ≡ x → (n : Reason) → burst_of x ≡ refused n → Refuses s c b n
   burst_row w low high v (Heard r) is n e =
       let q = (burst_rule.either r n).0 e in
       subst (Refuses s c b) (sym q.0) (⊎_elim
@@ -72,7 +73,7 @@ module _ (s : Sweep) (c : ℕ) (b : Burst) where
   not_swept n = fails (swept c) (swept_ends c) n
 
   -- the tests passed, a filing is what the burst makes of the record
-  in_burst : (r : Reading) → WellFormed s → 2 ≤ c → c ≤ 1086 → visited s c ≡ false → b ≡ Heard r
+  in_burst : (r : Reading Float) → WellFormed s → 2 ≤ c → c ≤ 1086 → visited s c ≡ false → b ≡ Heard r
       → (level_of r.level ≡ refused (Alone 1)) ⊎ (quality_of r.quality ≡ refused (Alone 1)) → filing s c b ≡ refused (Alone 1)
   in_burst r w x y v is o =
       file_in s c b ((well_formed_rule s).1 w) (ends_swept c (x, y)) v

@@ -1,6 +1,6 @@
 -- What is claimed of the sweep beyond each call's contract, in document 01's words and numbers; each is proved in `proofs/` under its name
--- with a small first letter.
-use Rattle.std.specs.Prelude.{ℕ, ◌+◌, ◌/◌, ◌%◌, ◌≤◌, ◌<◌, ◌^◌, ◌≡◌, Bool, true, false, ◌||◌, cond, ◌↔◌, ◌⊎◌, length, get_or, replicate, pos, neg_ℤ, eqb}
+-- in snake case.
+use Rattle.std.specs.Prelude.{ℕ, ◌+◌, ◌/◌, ◌%◌, ◌≤◌, ◌<◌, ◌^◌, ◌≡◌, Bool, true, false, ◌||◌, cond, ◌↔◌, ◌⊎◌, length, get_or, replicate, pos, neg_ℤ, eqb, Float, Some, None, Ok, Err}
 use mathlib.Core.List.{List, [], ◌∷◌, ◌++◌, map, Memᴰ}
 use Rattle.std.specs.Int.Count.{ones}
 use Rattle.refusal.specs.declared.Refusal.{Refusal}
@@ -20,8 +20,6 @@ use Rattle.sweep_rules.specs.Filing.{filing, leaves, checking}
 use Rattle.sweep_rules.specs.Next.{channel, done, next_told}
 use Rattle.sweep_rules.specs.Counts.{Counts, counts_told}
 use Rattle.sweep_rules.specs.Told.{told_next, told_numbers}
-use Rattle.sweep_rules.specs.declared.NextChannel.TheVariants as next
-use Rattle.sweep_rules.specs.declared.Numbers.TheVariants as numbers
 use Rattle.sweep_rules.specs.declared.Sweep.{Sweep}
 
 -- ---- the record: "a level for each of the 1,088 channel numbers, a map of visited channels and a map of heard ones, a bit per channel"
@@ -80,7 +78,7 @@ WellFormedRule = (s : Sweep) → (well_formed s ≡ true) ↔ WellFormed s
 
 -- the table for a filing: it is refused with this number, and no place is told. "Several at once: 9, .. 2, .. 3, .. 1.": a later number only
 -- where no earlier one is given
-pub data Refuses (s : Sweep) (c : ℕ) (b : Burst) : Reason → Type 0 where
+pub data Refuses (s : Sweep) (c : ℕ) (b : Burst Float) : Reason → Type 0 where
   -- 9: "a record not well formed"
   unformed : ¬ (WellFormed s) → Refuses s c b (Alone 9)
   -- 2: "a swept channel outside 2 to 1,086"
@@ -89,18 +87,18 @@ pub data Refuses (s : Sweep) (c : ℕ) (b : Burst) : Reason → Type 0 where
   -- 3: "a channel already visited in this sweep"
   visited_before : WellFormed s → 2 ≤ c → c ≤ 1086 → visited s c ≡ true → Refuses s c b (Alone 3)
   -- 1: "a level or quality, as a float .., is outside its range"; "Both floats of a heard burst are tested in a sweep"
-  level_outside : (r : Reading) → WellFormed s → 2 ≤ c → c ≤ 1086 → visited s c ≡ false → b ≡ Heard r
+  level_outside : (r : Reading Float) → WellFormed s → 2 ≤ c → c ≤ 1086 → visited s c ≡ false → b ≡ Heard r
       → ¬ (Within (neg_ℤ (pos 150)) (pos 0) r.level) → Refuses s c b (Alone 1)
-  quality_outside : (r : Reading) → WellFormed s → 2 ≤ c → c ≤ 1086 → visited s c ≡ false → b ≡ Heard r
+  quality_outside : (r : Reading Float) → WellFormed s → 2 ≤ c → c ≤ 1086 → visited s c ≡ false → b ≡ Heard r
       → ¬ (Within (neg_ℤ (pos 30)) (pos 40) r.quality) → Refuses s c b (Alone 1)
 
 -- the table has no number for the filing
-abbrev pub Accepts : Sweep → ℕ → Burst → Type 0
+abbrev pub Accepts : Sweep → ℕ → Burst Float → Type 0
 Accepts s c b = (n : Reason) → ¬ (Refuses s c b n)
 
 -- each call is refused with a number exactly when the table says so; the calls that only read a record, with 9
 pub record RefusalRule : Type 0 where
-  pub files : (s : Sweep) (c : ℕ) (b : Burst) (n : Reason) → (acceptance (filing s c b) ≡ refused n) ↔ Refuses s c b n
+  pub files : (s : Sweep) (c : ℕ) (b : Burst Float) (n : Reason) → (acceptance (filing s c b) ≡ refused n) ↔ Refuses s c b n
   pub next : (s : Sweep) (n : Reason) → (next_told s ≡ refused n) ↔ ((n ≡ Alone 9) × (¬ (WellFormed s)))
   pub numbers : (s : Sweep) (n : Reason) → (counts_told s ≡ refused n) ↔ ((n ≡ Alone 9) × (¬ (WellFormed s)))
   pub tests : (s : Sweep) (n : Reason) → (checking s ≡ refused n) ↔ ((n ≡ Alone 9) × (¬ (WellFormed s)))
@@ -108,13 +106,13 @@ pub record RefusalRule : Type 0 where
 -- ---- filing: "marks it visited. If heard, it marks it heard and stores the level; if missed, the level stays 0."
 
 -- t is the record s with the burst b filed for channel c
-pub record Filed (s : Sweep) (c : ℕ) (b : Burst) (t : Sweep) : Type 0 where
+pub record Filed (s : Sweep) (c : ℕ) (b : Burst Float) (t : Sweep) : Type 0 where
   -- visited are exactly c and those visited before
   pub visits : (d : ℕ) → (visited t d ≡ true) ↔ ((visited s d ≡ true) ⊎ (d ≡ c))
   -- a heard burst: heard are exactly c and those heard before, its level is stored, and every other is as it was
-  pub hears : (r : Reading) → b ≡ Heard r → (d : ℕ) → (heard t d ≡ true) ↔ ((heard s d ≡ true) ⊎ (d ≡ c))
-  pub level_stored : (r : Reading) → b ≡ Heard r → level_of r.level ≡ gives (level_at t c)
-  pub level_kept : (r : Reading) → b ≡ Heard r → (d : ℕ) → ¬ (d ≡ c) → level_at t d ≡ level_at s d
+  pub hears : (r : Reading Float) → b ≡ Heard r → (d : ℕ) → (heard t d ≡ true) ↔ ((heard s d ≡ true) ⊎ (d ≡ c))
+  pub level_stored : (r : Reading Float) → b ≡ Heard r → level_of r.level ≡ gives (level_at t c)
+  pub level_kept : (r : Reading Float) → b ≡ Heard r → (d : ℕ) → ¬ (d ≡ c) → level_at t d ≡ level_at s d
   -- a missed one: the channels heard and all levels are as they were, that of c is 0
   pub misses : b ≡ Missed → (d : ℕ) → heard t d ≡ heard s d
   pub levels_kept : b ≡ Missed → (d : ℕ) → level_at t d ≡ level_at s d
@@ -123,7 +121,7 @@ pub record Filed (s : Sweep) (c : ℕ) (b : Burst) (t : Sweep) : Type 0 where
   pub typed : Typed t
 
 -- what filing b for channel c answers, and the record that it hands back
-pub record FilesRule (s : Sweep) (c : ℕ) (b : Burst) : Type 0 where
+pub record FilesRule (s : Sweep) (c : ℕ) (b : Burst Float) : Type 0 where
   -- "A refusal returns its number and the record it was given."
   pub refuses : (n : Reason) → Refuses s c b n → (acceptance (filing s c b) ≡ refused n) × (leaves s (filing s c b) ≡ s)
   -- where the table has no number
@@ -131,7 +129,7 @@ pub record FilesRule (s : Sweep) (c : ℕ) (b : Burst) : Type 0 where
   pub files : Accepts s c b → Typed s → Filed s c b (leaves s (filing s c b))
 
 abbrev pub FilingRule : Type 0
-FilingRule = (s : Sweep) (c : ℕ) (b : Burst) → FilesRule s c b
+FilingRule = (s : Sweep) (c : ℕ) (b : Burst Float) → FilesRule s c b
 
 -- ---- the next channel, a finished sweep, and the numbers visited and heard
 
@@ -174,7 +172,7 @@ pub record FinishedRule : Type 0 where
 -- a filing: a channel, and what the modem gave for it
 pub record Filing : Type 0 where
   pub channel : ℕ
-  pub burst : Burst
+  pub burst : Burst Float
 
 -- what it is told: the record that it leaves, or its refusal
 abbrev pub told : Sweep → Filing → Told Sweep
@@ -196,7 +194,7 @@ accepted_of s [] = []
 accepted_of s (f ∷ fs) = cond (is_accepted (told s f)) (f ∷ accepted_of (leaves s (told s f)) fs) (accepted_of (leaves s (told s f)) fs)
 
 -- the modem heard the burst
-abbrev pub is_heard : Burst → Bool
+abbrev pub is_heard : Burst Float → Bool
 is_heard (Heard r) = true
 is_heard Missed = false
 
@@ -218,7 +216,7 @@ pub record SequenceRule : Type 0 where
       → accepted_of s (fs ++ (f ∷ [])) ≡ accepted_of s fs
   -- and a heard one exactly where its burst is
   pub none_heard : heard_of [] ≡ []
-  pub one_heard : (fs : List Filing) (f : Filing) (r : Reading) → f.burst ≡ Heard r → heard_of (fs ++ (f ∷ [])) ≡ heard_of fs ++ (f ∷ [])
+  pub one_heard : (fs : List Filing) (f : Filing) (r : Reading Float) → f.burst ≡ Heard r → heard_of (fs ++ (f ∷ [])) ≡ heard_of fs ++ (f ∷ [])
   pub one_missed : (fs : List Filing) (f : Filing) → f.burst ≡ Missed → heard_of (fs ++ (f ∷ [])) ≡ heard_of fs
 
 -- a filing of the list is for channel c
@@ -235,7 +233,7 @@ pub record FiledRecord (s : Sweep) (accepted : List Filing) : Type 0 where
   pub channels_visited : (c : ℕ) → (visited s c ≡ true) ↔ For c accepted
   pub channels_heard : (c : ℕ) → (heard s c ≡ true) ↔ For c (heard_of accepted)
   -- each heard level is the one filed
-  pub level_filed : (f : Filing) (r : Reading) → Memᴰ f accepted → f.burst ≡ Heard r → level_of r.level ≡ gives (level_at s f.channel)
+  pub level_filed : (f : Filing) (r : Reading Float) → Memᴰ f accepted → f.burst ≡ Heard r → level_of r.level ≡ gives (level_at s f.channel)
 
 -- so the record after every list of filings from a fresh one shows the accepted ones of the list
 abbrev pub FiledFromFresh : Type 0
@@ -250,8 +248,8 @@ pub record AnswersDiffer : Type 0 where
 
 -- and each case is told as what it says, a refusal as its number and, where it has one, its place
 pub record AnswersTold : Type 0 where
-  pub next_channel : (c : ℕ) → told_next (next.Channel c) ≡ gives (channel c)
-  pub next_done : told_next next.Done ≡ gives done
-  pub next_refused : (r : Refusal) → told_next (next.Refused r) ≡ refused (reason_of r)
-  pub numbers_of : (v h : ℕ) → told_numbers (numbers.Of v h) ≡ gives (record { visited = v; heard = h })
-  pub numbers_refused : (r : Refusal) → told_numbers (numbers.Refused r) ≡ refused (reason_of r)
+  pub next_channel : (c : ℕ) → told_next (Ok (Some c)) ≡ gives (channel c)
+  pub next_done : told_next (Ok None) ≡ gives done
+  pub next_refused : (r : Refusal) → told_next (Err r) ≡ refused (reason_of r)
+  pub numbers_of : (v h : ℕ) → told_numbers (Ok (record { visited = v; heard = h })) ≡ gives (record { visited = v; heard = h })
+  pub numbers_refused : (r : Refusal) → told_numbers (Err r) ≡ refused (reason_of r)

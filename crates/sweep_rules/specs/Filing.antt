@@ -1,5 +1,5 @@
 -- Document 01, section The band sweep: filing a result for a channel, and its refusals 9, 2, 3, 1 in this order.
-use Rattle.std.specs.Prelude.{ℕ, not, set, ℤ}
+use Rattle.std.specs.Prelude.{ℕ, not, set, ℤ, Float}
 use Rattle.refusal.specs.declared.Refusal.TheVariants.{ChannelOutOfRange, ChannelVisited, RecordNotWellFormed}
 use Rattle.refusal.specs.Told.{Told, refused, gives, accepted, provided}
 use Rattle.readings_rules.specs.declared.Burst.{Burst}
@@ -24,7 +24,7 @@ with_burst s c (gives (readings.heard level quality)) = gives (with_heard s c le
 with_burst s c (refused n) = refused n
 
 -- the record that a filing leaves, or its refusal; whether it is accepted is the `acceptance` of this
-unfoldable pub filing : Sweep → ℕ → Burst → Told Sweep
+unfoldable pub filing : Sweep → ℕ → Burst Float → Told Sweep
 filing s c b =
     provided (well_formed s) RecordNotWellFormed
     (provided (swept c) ChannelOutOfRange

@@ -5,53 +5,28 @@
 ghost use Rattle.sweep_rules.specs.Claims.{RecordRule, FreshRule, OnesAreChannels, OneBitSet, WellFormedRule, RefusalRule, FilingRule};
 ghost use Rattle.sweep_rules.specs.Claims.{NextLowest, AnswerRule, FinishedRule, SequenceRule, FiledFromFresh, AnswersDiffer, AnswersTold};
 
-use refusal::{Outcome, Refusal};
-
 // The sweep record: a level in hundredths for each of the 1,088 channel numbers, and two maps, a bit per channel.
+// The C interface has this layout, so these stay three arrays side by side.
 #[repr(C)]
-#[derive(Clone, Copy)]
+#[derive(Clone, Copy, PartialEq, Eq)]
 pub struct Sweep {
     pub levels: [i32; CHANNELS],
-    pub visited: [u64; 17],
-    pub heard: [u64; 17],
-}
-
-// A sweep and the answer of a call that gives no value.
-#[derive(Clone, Copy)]
-pub struct SweepOutcome {
-    pub sweep: Sweep,
-    pub answer: Outcome,
-}
-
-// The lowest channel not visited.
-#[derive(Clone, Copy)]
-pub enum NextChannel {
-    Channel(u16),
-    Done,
-    Refused(Refusal),
-}
-
-#[derive(Clone, Copy)]
-pub struct SweepNext {
-    pub sweep: Sweep,
-    pub answer: NextChannel,
+    pub visited: [u64; WORDS],
+    pub heard: [u64; WORDS],
 }
 
 // The numbers of channels visited and heard.
-#[derive(Clone, Copy)]
-pub enum Numbers {
-    Of { visited: u32, heard: u32 },
-    Refused(Refusal),
-}
-
-#[derive(Clone, Copy)]
-pub struct SweepNumbers {
-    pub sweep: Sweep,
-    pub answer: Numbers,
+#[derive(Clone, Copy, PartialEq, Eq)]
+pub struct Numbers {
+    pub visited: u32,
+    pub heard: u32,
 }
 
 // How many channel numbers there are: 1,088.
 pub const CHANNELS: usize = readings_rules::CHANNEL_HIGHEST as usize + 1;
+
+// The words of a map, of 64 bits each.
+pub const WORDS: usize = 17;
 
 // The channels that the sweep visits.
 pub const FIRST_SWEPT: usize = 2;

@@ -1,5 +1,6 @@
 -- A record is well formed exactly when calls leave it. One way: calls keep record and plain watch in step, and the record of good rows is
 -- well formed. Other way: a start and a new beam give the channels, and each level is filed, oldest first, as the float that shows it.
+use Rattle.std.specs.Prelude.{Float}
 use Prim.Native.Nat.{ℕ, ◌≤◌}
 use mathlib.Core.Path.{◌≡◌, refl, sym, ap, ap₂, ◌∙◌, subst}
 use mathlib.Core.Bool.{Bool, true, false, not, ◌||◌, or-true}
@@ -74,7 +75,7 @@ extend d rs k r b n =
 
 -- ---- a burst for each level: the float that shows it, and any quality in range
 
-burst_for : ℤ → Burst
+burst_for : ℤ → Burst Float
 burst_for x = Heard (record { level = float_of x; quality = float_of (pos 0) })
 
 burst_for_lem : (x : ℤ) → level_in_range x ≡ true → burst_of (burst_for x) ≡ gives (heard x (pos 0))

@@ -1,5 +1,5 @@
--- Demand 3, and what else is claimed of the watch. Proved in `proofs/`, each under its name with a small first letter.
-use Rattle.std.specs.Prelude.{ℕ, ◌+◌, ◌≤◌, ◌<◌, min, ◌≡◌, ◌⊎◌, ◌↔◌, Bool, true, false, cond, T, eqb, ℤ, pos, ◌+ℤ◌, ◌*ℤ◌, ◌≤ℤ◌, ◌<ℤ◌, length, take}
+-- Demand 3, and what else is claimed of the watch. Proved in `proofs/`, each under its name in snake case.
+use Rattle.std.specs.Prelude.{ℕ, ◌+◌, ◌≤◌, ◌<◌, min, ◌≡◌, ◌⊎◌, ◌↔◌, Bool, true, false, cond, T, eqb, ℤ, pos, ◌+ℤ◌, ◌*ℤ◌, ◌≤ℤ◌, ◌<ℤ◌, length, take, Ok, Err, Float}
 use mathlib.Core.List.{List, [], ◌∷◌, ◌++◌, Memᴰ}
 use Rattle.std.proofs.Math.Option.{Option, none, some}
 use Rattle.std.proofs.Math.ListN.{get_elem?}
@@ -21,7 +21,7 @@ use Rattle.watch_rules.specs.declared.Track.{Track}
 use Rattle.watch_rules.specs.declared.Watch.{Watch}
 use Rattle.watch_rules.specs.declared.Answer.TheVariants as says
 use Rattle.watch_rules.specs.Lists.{mem, times_in, distinct, every, is, last_n, sum}
-use Rattle.watch_rules.specs.Told.{Call, start, new_beam, file, ask, verdict, Given, accepted, levels, wait, stay, move_to, told, told_handed}
+use Rattle.watch_rules.specs.Told.{Call, start, new_beam, file, ask, verdict, Given, accepted, levels, wait, stay, move_to, told_answer, told_handed}
 use Rattle.watch_rules.specs.Rules.{answer, mean, full, counts, target}
 use Rattle.watch_rules.specs.Plain.{Plain, idle, seen, next, answers, after}
 use Rattle.watch_rules.specs.Rows.{channels, levels_of, first, rest}
@@ -180,7 +180,7 @@ pub record NothingElse : Type 0 where
 -- ---- well formed
 
 -- a call that can be made: a channel is a u16, a depth a usize, a hysteresis an i32, and each float one that an f32 holds
-abbrev pub Single : Burst → Type 0
+abbrev pub Single : Burst Float → Type 0
 Single (Heard r) = T (fits binary32 r.level) × T (fits binary32 r.quality)
 Single Missed = Unit {0}
 
@@ -269,7 +269,7 @@ pub record StepsOf (p : Plain) : Type 0 where
   pub refusing : (k : Call) (n : Reason) → Refuses p k n → (answer (seen p) k ≡ refused n) × (next p k ≡ p)
   pub starts : (c d : ℕ) → Accepted p (start c d) → Started c d (next p (start c d))
   pub beams : (s : ℕ) (l : List ℕ) → Accepted p (new_beam s l) → BeamTaken p s l (next p (new_beam s l))
-  pub files : (c : ℕ) (b : Burst) (level quality : ℤ) → Accepted p (file c b) → burst_of b ≡ gives (heard level quality) → Filed p c level (next p (file c b))
+  pub files : (c : ℕ) (b : Burst Float) (level quality : ℤ) → Accepted p (file c b) → burst_of b ≡ gives (heard level quality) → Filed p c level (next p (file c b))
   -- "Missed: no change. Ask, verdict: no change."
   pub misses : (c : ℕ) → next p (file c Missed) ≡ p
   pub asks : (c : ℕ) → next p (ask c) ≡ p
@@ -322,7 +322,7 @@ Accepts ks k = Accepted (after idle ks) k → (called (after_from fresh ks) k).a
 pub record AcceptedRule : Type 0 where
   pub starts : (ks : List Call) (c d : ℕ) → Accepts ks (start c d)
   pub beams : (ks : List Call) (s : ℕ) (l : List ℕ) → Accepts ks (new_beam s l)
-  pub files : (ks : List Call) (c : ℕ) (b : Burst) → Accepts ks (file c b)
+  pub files : (ks : List Call) (c : ℕ) (b : Burst Float) → Accepts ks (file c b)
 
 -- ---- the new beam, and the two calls of document 01 that it takes the place of
 
@@ -453,14 +453,14 @@ pub record WordsRule : Type 0 where
 
 -- an answer tells what its name says, and a refusal its number and place
 pub record AnswersTold : Type 0 where
-  pub accepts : told says.Accepted ≡ gives accepted
-  pub asked : (count : ℕ) (mean : ℤ) → told (says.Levels count mean) ≡ gives (levels count mean)
-  pub waits : told says.Wait ≡ gives wait
-  pub stays : told says.Stay ≡ gives stay
-  pub moves : (c : ℕ) → told (says.MoveTo c) ≡ gives (move_to c)
-  pub reason : (why : Refusal) → told (says.Refused why) ≡ refused (reason_of why)
+  pub accepts : told_answer (Ok says.Accepted) ≡ gives accepted
+  pub asked : (count : ℕ) (mean : ℤ) → told_answer (Ok (says.Levels count mean)) ≡ gives (levels count mean)
+  pub waits : told_answer (Ok says.Wait) ≡ gives wait
+  pub stays : told_answer (Ok says.Stay) ≡ gives stay
+  pub moves : (c : ℕ) → told_answer (Ok (says.MoveTo c)) ≡ gives (move_to c)
+  pub reason : (why : Refusal) → told_answer (Err why) ≡ refused (reason_of why)
 
 -- what is told of an answer fixes its case and values, and so does what is told of what a call hands back
 pub record AnswersDiffer : Type 0 where
-  pub answer : OneToOne told
+  pub answer : OneToOne told_answer
   pub handed : OneToOne told_handed

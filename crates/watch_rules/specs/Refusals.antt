@@ -1,6 +1,6 @@
 -- Document 01, section Refusal numbers, for the calls of a watch, in its own words and document 02's: over what the plain watch holds, without
 -- the tests of `Rules`. `Claims.RefusalRule` says that the calls refuse exactly so. How often a channel is in a list is `times_in`.
-use Rattle.std.specs.Prelude.{ℕ, ◌≤◌, ◌<◌, ◌≡◌, ◌⊎◌, true, List, ℤ, pos, ◌≤ℤ◌, ◌<ℤ◌, length}
+use Rattle.std.specs.Prelude.{ℕ, ◌≤◌, ◌<◌, ◌≡◌, ◌⊎◌, true, List, ℤ, pos, ◌≤ℤ◌, ◌<ℤ◌, length, Float}
 use Rattle.std.proofs.Math.Option.{none, some}
 use Rattle.std.proofs.Math.ListN.{get_elem?}
 use Rattle.refusal.specs.declared.Reason.{Reason}
@@ -62,12 +62,12 @@ pub data Refuses (p : Plain) : Call → Reason → Type 0 where
   -- 12 to 14, with the place
   list_faulty : (s : ℕ) (l : List ℕ) (place n : ℕ) → s ≤ 1087 → length l ≤ 6 → FirstFault s l place n → Refuses p (new_beam s l) (At n place)
   -- 6: "a filed or asked channel not watched; .. verdict on an idle watch", and a new beam: "then 6 if idle"
-  file_not_watched : (c : ℕ) (b : Burst) → ¬ (Watched p c) → Refuses p (file c b) (Alone 6)
+  file_not_watched : (c : ℕ) (b : Burst Float) → ¬ (Watched p c) → Refuses p (file c b) (Alone 6)
   ask_not_watched : (c : ℕ) → ¬ (Watched p c) → Refuses p (ask c) (Alone 6)
   beam_idle : (s : ℕ) (l : List ℕ) → s ≤ 1087 → ¬ (Faulty s l) → p.serving ≡ none → Refuses p (new_beam s l) (Alone 6)
   verdict_idle : (h : ℤ) → pos 0 ≤ℤ h → h ≤ℤ pos 6000 → p.serving ≡ none → Refuses p (verdict h) (Alone 6)
   -- 1: "a level or quality, as a float .., is outside its range", by the readings' rule
-  burst_out_of_range : (c : ℕ) (b : Burst) → Watched p c → burst_of b ≡ refused (Alone 1) → Refuses p (file c b) (Alone 1)
+  burst_out_of_range : (c : ℕ) (b : Burst Float) → Watched p c → burst_of b ≡ refused (Alone 1) → Refuses p (file c b) (Alone 1)
 
 -- an accepted call: no row of the table fits it
 abbrev pub Accepted : Plain → Call → Type 0

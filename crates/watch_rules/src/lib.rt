@@ -4,8 +4,6 @@
 
 ghost use Rattle.watch_rules.specs.Claims.{Demand3, NothingElse, WellFormedIsReachable, ItFollows, Unchanged, UnformedRule, ListRule, SequenceRule, PlainRule, LevelsRule, RefusalRule, ListFaultRule, AcceptedRule, BeamRule, AskRule, VerdictRule, PartRule, DepthRule, WordsRule, AnswersTold, AnswersDiffer};
 
-use refusal::Refusal;
-
 // How many levels of a channel make a mean and a sum is the depth of a watch, given at its start: older levels go.
 pub const DEPTH_LOWEST: usize = 5;
 
@@ -24,8 +22,9 @@ pub const CAPACITY: usize = 32;
 pub const ROOM: usize = LIST_LIMIT + 1;
 
 // A channel under watch with its levels in hundredths, oldest first: 16 bits hold their range. What lies beyond `count` is 0.
+// The C interface has this layout, so the levels stay a buffer with their count beside it.
 #[repr(C)]
-#[derive(Clone, Copy)]
+#[derive(Clone, Copy, PartialEq, Eq)]
 pub struct Track {
     pub channel: u16,
     pub count: usize,
@@ -33,31 +32,23 @@ pub struct Track {
 }
 
 // The first `watched` tracks are in use: the serving channel, then its list in the network's order. The others are all zero. An idle
-// watch uses none, and its depth is 0.
+// watch uses none, and its depth is 0. The C interface has this layout, so the tracks stay a buffer with their number beside it.
 #[repr(C)]
-#[derive(Clone, Copy)]
+#[derive(Clone, Copy, PartialEq, Eq)]
 pub struct Watch {
     pub watched: usize,
     pub tracks: [Track; ROOM],
     pub depth: usize,
 }
 
-// What a call answers.
-#[derive(Clone, Copy)]
+// What an accepted call gives: its acceptance, a count and a mean, or a verdict.
+#[derive(Clone, Copy, PartialEq, Eq)]
 pub enum Answer {
     Accepted,
-    Refused(Refusal),
     Levels { count: u32, mean: i32 },
     Wait,
     Stay,
     MoveTo(u16),
-}
-
-// What a call hands back: the watch beside its answer. Refused, it is the watch that the call was given.
-#[derive(Clone, Copy)]
-pub struct Handed {
-    pub watch: Watch,
-    pub answer: Answer,
 }
 
 // Nothing to run: its contract is demand 3 and all else that is claimed of the watch, so that the check asks for the proof of each.
