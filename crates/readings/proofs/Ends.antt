@@ -1,5 +1,5 @@
 -- The ends of a range, and a number, are read from their bits as they are.
-use Rattle.std.proofs.Common.{◌≡◌, ◌<◌, arith, subst, ◌∙◌, Bool, ℤ, nat_abs, FitsSigned, to_z, of_z, w32}
+use Rattle.std.proofs.Common.{◌≡◌, ◌<◌, arith, ℤ, nat_abs, FitsSigned, to_z, of_z, w32}
 use Rattle.std.proofs.lemmas.Int.{fits_signed_from_abs}
 use mir.ValLaws.{to_z-of_z}
 

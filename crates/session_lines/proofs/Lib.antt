@@ -1,2 +1,2 @@
--- The laws behind the proof of a line that grows.
-mod Sizes
+-- The law behind the proof of a line that grows.
+mod Growing

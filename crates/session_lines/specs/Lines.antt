@@ -39,7 +39,7 @@ kept_of s = record { size = min (length s) (suc longest); first = take longest s
 
 -- what a line of the code keeps
 abbrev pub kept : Line → Kept
-kept l = record { size = min l.length (suc longest); first = take l.length l.bytes }
+kept l = kept_of l.bytes.items
 
 -- what is kept once more bytes have come
 unfoldable pub with_more : Kept → List ℕ → Kept

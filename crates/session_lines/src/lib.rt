@@ -4,40 +4,52 @@
 ghost use Rattle.std.specs.Prelude.{◌≡◌, []};
 ghost use Rattle.session_lines.specs.Lines.{kept, kept_of, with_more};
 
-use session_words::{copy_to, least};
+use arrayvec::ArrayVec;
+use session_words::push_fitting;
 
 // The longest line that may be a call, without its newline.
 pub const LONGEST: usize = 200;
 
-// The first `length` bytes are the line so far. A greater length than the longest stands for any such: its first bytes alone are kept.
-#[derive(Clone, Copy)]
+// One byte more is kept: it tells that a line is too long.
+const KEPT: usize = LONGEST + 1;
+
+// The first bytes of a line, as far as it was read.
+#[derive(Drop)]
 pub struct Line {
-    pub bytes: [u8; LONGEST],
-    pub length: usize,
+    bytes: ArrayVec<u8, KEPT>,
 }
 
-// A line of no bytes.
-pub fn blank() -> Line
-    ensures { kept result ≡ kept_of [] }
-{
-    Line {
-        bytes: [0; LONGEST],
-        length: 0,
+impl Line {
+    // A line of no bytes.
+    pub fn blank() -> Line
+        ensures { kept result ≡ kept_of [] }
+    {
+        Line {
+            bytes: ArrayVec::new(),
+        }
     }
-}
 
-// The line with more bytes.
-pub fn with_more(line: Line, more: &[u8]) -> Line
-    ensures { kept result ≡ with_more (kept line) more.now }
-{
-    let from = least(line.length, LONGEST);
-    let mut bytes = line.bytes;
-    let length = copy_to(&mut bytes, from, more);
-    if (line.length <= LONGEST) & (more.len() <= LONGEST - from) {
-        return Line { bytes, length };
+    // The line with more bytes.
+    pub fn with_more(mut self, more: &[u8]) -> Line
+        ensures { kept result ≡ with_more (kept self) more.now }
+    {
+        push_fitting(&mut self.bytes, more);
+        self
     }
-    Line {
-        bytes,
-        length: LONGEST + 1,
+
+    // Its length; one above the longest stands for all greater ones.
+    pub fn size(&self) -> usize
+        ensures { result ≡ (kept self.now).size }
+    {
+        self.bytes.len()
+    }
+
+    // Its first bytes, at most the longest.
+    #[tactic(auto, using(std::proofs::lemmas::List::take_min))]
+    pub fn first(&self) -> &[u8]
+        ensures { result.now ≡ (kept self.now).first }
+    {
+        let bytes = self.bytes.as_slice();
+        &bytes[..LONGEST.min(bytes.len())]
     }
 }

@@ -1,20 +1,15 @@
--- Decimals: digits before a point and after it are the digits of one whole number, and a few digits make a number that a single float holds.
+-- Decimals: digits before a point and after it are the digits of one whole number.
 use Prim.Native.Nat.{ℕ, suc, ◌+◌, ◌-◌, ◌*◌, ◌^◌, ◌≤◌, ◌<◌}
-use mathlib.Core.Path.{◌≡◌, refl, sym, ap, ◌∙◌}
-use mathlib.Core.Bool.{Bool, true, false, cond, ◌&&◌}
-use mathlib.Core.List.{List, [], ◌∷◌, ◌++◌}
-use mathlib.Core.Option.{none, some}
+use Rattle.std.proofs.Common.{◌≡◌, Bool, true, false, cond, ◌&&◌, List, [], ◌∷◌, ◌++◌, length, take, drop, leb, ltb, None, Some, refl, sym, ap, ◌∙◌, arith, le-leb, add-one, ◌==◌}
+use Rattle.std.specs.List.{position_or_len}
+use Rattle.byte_scan.proofs.Places.{index_is}
+use Rattle.std.specs.Prelude.{option_map, Float}
+use Rattle.std.proofs.lemmas.Bool.{lt-leb}
 use native.Mathlib.Nat.{pow-suc, mul_assoc, mul_comm, mul-one, zero-add, add-zero, add-mul}
 use native.Mathlib.Decide.{dec_le}
-use native.Mathlib.Omega.{arith}
-use lib.ListN.{length, take, drop}
-use lib.Dec.{T, leb, le→leb}
-use lib.IntN.{pos}
-use lib.Ieee.{Float, binary32, in_float}
-use borrow.Author.Tests.{le-leb, lt-leb, lt-ltb, le-ltb, leb-true}
-use Rattle.byte_scan.specs.Bytes.{index_of}
-use Rattle.session_numbers.specs.Numbers.{also, point, is_run, value_after, value_of, digits_of, decimal_digits, quotient, fraction_of, unsigned_of}
+use borrow.Author.Tests.{leb-true}
 use Rattle.session_words.proofs.Lists.{cond-true, cond-false}
+use Rattle.session_numbers.specs.Numbers.{point, is_run, value_after, value_of, digits_of, decimal_digits, quotient, fraction_of, unsigned_of}
 
 -- ---- the value of digits that go on
 
@@ -54,29 +49,29 @@ pub record Run (highest : ℕ) (s : List ℕ) (v : ℕ) : Type 0 where
   pub most : length s ≤ highest
   pub value : v ≡ value_of s
 
-pub run_some : (most : ℕ) (s : List ℕ) (v : ℕ) → some v ≡ digits_of most s → Run most s v
+pub run_some : (most : ℕ) (s : List ℕ) (v : ℕ) → Some v ≡ digits_of most s → Run most s v
 unfolding digits_of
 run_some most s v e = go (is_run s && leb (length s) most) refl e
   where
-    go : (x : Bool) → (is_run s && leb (length s) most) ≡ x → some v ≡ cond x (some (value_of s)) none → Run most s v
+    go : (x : Bool) → (is_run s && leb (length s) most) ≡ x → Some v ≡ cond x (Some (value_of s)) None → Run most s v
     go true f e = let p = both (is_run s) (leb (length s) most) f in record { is = p.0; most = leb-true _ _ p.1; value = cc }
     go false f e = let z : ◌≡◌ {A = ℕ} 0 1 = cc in let w : ⊥ = omega arith in absurd w
 
-pub run_none : (most : ℕ) (s : List ℕ) → none ≡ digits_of most s → (is_run s && leb (length s) most) ≡ false
+pub run_none : (most : ℕ) (s : List ℕ) → None ≡ digits_of most s → (is_run s && leb (length s) most) ≡ false
 unfolding digits_of
 run_none most s e = go (is_run s && leb (length s) most) refl e
   where
-    go : (x : Bool) → (is_run s && leb (length s) most) ≡ x → none ≡ cond x (some (value_of s)) none → (is_run s && leb (length s) most) ≡ false
+    go : (x : Bool) → (is_run s && leb (length s) most) ≡ x → None ≡ cond x (Some (value_of s)) None → (is_run s && leb (length s) most) ≡ false
     go true f e = let z : ◌≡◌ {A = ℕ} 0 1 = cc in let w : ⊥ = omega arith in absurd w
     go false f e = f
 
 -- ---- digits before a point and after it
 
-fraction_by : (s t : List ℕ) → (is_run s && is_run t && leb (length s + length t) decimal_digits) ≡ false → none ≡ fraction_of s t
+fraction_by : (s t : List ℕ) → (is_run s && is_run t && leb (length s + length t) decimal_digits) ≡ false → None ≡ fraction_of s t
 unfolding fraction_of
 fraction_by s t e = sym (cond-false _ _ e)
 
-pub fraction_long : (s t : List ℕ) → decimal_digits < length s → none ≡ fraction_of s t
+pub fraction_long : (s t : List ℕ) → decimal_digits < length s → None ≡ fraction_of s t
 fraction_long s t h =
     fraction_by s t (ap (λ x. is_run s && is_run t && x) (lt-leb (length s + length t) decimal_digits (omega arith)) ∙ nothing (is_run s && is_run t))
   where
@@ -84,7 +79,7 @@ fraction_long s t h =
     nothing true = refl
     nothing false = refl
 
-pub fraction_first : (s t : List ℕ) → length s ≤ decimal_digits → none ≡ digits_of decimal_digits s → none ≡ fraction_of s t
+pub fraction_first : (s t : List ℕ) → length s ≤ decimal_digits → None ≡ digits_of decimal_digits s → None ≡ fraction_of s t
 fraction_first s t h e =
     fraction_by s t (ap (λ x. x && is_run t && leb (length s + length t) decimal_digits) (sym (whole (is_run s)) ∙ ap (λ x. is_run s && x) (sym (le-leb _ _ h))
     ∙ run_none decimal_digits s e))
@@ -101,7 +96,7 @@ room_is m n k h = go (dec_le (m + n) k)
     go (yes l) = le-leb n (k - m) (omega arith) ∙ sym (le-leb (m + n) k l)
     go (no l) = let g : k < m + n = omega arith in lt-leb n (k - m) (omega arith) ∙ sym (lt-leb (m + n) k g)
 
-pub fraction_second : (s t : List ℕ) → length s ≤ decimal_digits → none ≡ digits_of (decimal_digits - length s) t → none ≡ fraction_of s t
+pub fraction_second : (s t : List ℕ) → length s ≤ decimal_digits → None ≡ digits_of (decimal_digits - length s) t → None ≡ fraction_of s t
 fraction_second s t h e =
     fraction_by s t (first (is_run s) (is_run t) (leb (length s + length t) decimal_digits)
     (ap (λ x. is_run t && x) (sym (room_is (length s) (length t) decimal_digits h)) ∙ run_none (decimal_digits - length s) t e))
@@ -111,27 +106,38 @@ fraction_second s t h e =
     first false b c e = refl
 
 pub fraction_both : (s t : List ℕ) (b a : ℕ) (x : Float) → Run decimal_digits s b → Run (decimal_digits - length s) t a
-    → x ≡ quotient (b * 10 ^ length t + a) (length t) → some x ≡ fraction_of s t
+    → x ≡ quotient (b * 10 ^ length t + a) (length t) → Some x ≡ fraction_of s t
 unfolding fraction_of
 fraction_both s t b a x p q e =
     let l : length s + length t ≤ decimal_digits = omega arith in
-    ap some (e ∙ ap (λ y. quotient (y * 10 ^ length t + a) (length t)) p.value ∙ ap (λ y. quotient (value_of s * 10 ^ length t + y) (length t)) q.value
+    ap Some (e ∙ ap (λ y. quotient (y * 10 ^ length t + a) (length t)) p.value ∙ ap (λ y. quotient (value_of s * 10 ^ length t + y) (length t)) q.value
     ∙ ap (λ y. quotient y (length t)) (value_joined s t))
     ∙ sym (cond-true _ _ (ap (λ y. y && is_run t && leb (length s + length t) decimal_digits) p.is
     ∙ ap (λ y. y && leb (length s + length t) decimal_digits) q.is ∙ le-leb _ _ l))
 
 -- ---- with a point and without
 
-pub unsigned_point : (s : List ℕ) → index_of point s < length s → fraction_of (take (index_of point s) s) (drop (suc (index_of point s)) s) ≡ unsigned_of s
-unfolding unsigned_of
-unsigned_point s h = sym (cond-true _ _ (lt-ltb _ _ h))
+-- the place of the first point as the library tells it
+module _ (s : List ℕ) where
+  abbrev at : ℕ
+  at = position_or_len (λ x. x == point) s
 
-pub unsigned_plain : (s : List ℕ) → length s ≤ index_of point s → also (λ v. quotient v 0) (digits_of decimal_digits s) ≡ unsigned_of s
-unfolding unsigned_of
-unsigned_plain s h = sym (cond-false _ _ (le-ltb _ _ h))
+  pub unsigned_point : (p : ℕ) → Some p ≡ cond (ltb at (length s)) (Some at) None → fraction_of (take p s) (drop (p + 1) s) ≡ unsigned_of s
+  unfolding unsigned_of
+  unsigned_point p e = rw (index_is point s) (go (ltb at (length s)) e)
+    where
+      go : (t : Bool) → Some p ≡ cond t (Some at) None
+          → fraction_of (take p s) (drop (p + 1) s)
+          ≡ cond t (fraction_of (take at s) (drop (suc at) s)) (option_map (λ v. quotient v 0) (digits_of decimal_digits s))
+      go true e = let q : p ≡ at = cc in rw (add-one, q) refl
+      go false e = cc
 
--- ---- a single float holds such numbers
-
-pub held : (n : ℕ) → n ≤ 10000000 → T (in_float binary32 (pos n))
-unfolding in_float
-held n h = le→leb n 16777216 (omega arith)
+  pub unsigned_plain : None ≡ cond (ltb at (length s)) (Some at) None → option_map (λ v. quotient v 0) (digits_of decimal_digits s) ≡ unsigned_of s
+  unfolding unsigned_of
+  unsigned_plain e = rw (index_is point s) (go (ltb at (length s)) e)
+    where
+      go : (t : Bool) → None ≡ cond t (Some at) None
+          → option_map (λ v. quotient v 0) (digits_of decimal_digits s)
+          ≡ cond t (fraction_of (take at s) (drop (suc at) s)) (option_map (λ v. quotient v 0) (digits_of decimal_digits s))
+      go true e = cc
+      go false e = refl

@@ -1,8 +1,8 @@
--- The laws behind the proofs of a session file's numbers, in the order in which they stand on each other.
-pub mod Choices
+-- The laws behind the proofs of numbers.
+pub mod Powers
 mod Runs
-mod Powers
-mod Hex
-mod Wholes
+mod Radices
+mod Signs
 mod Decimals
 mod Nums
+pub mod Ranges

@@ -1,43 +1,28 @@
 -- Single floats by their words: each case of the tests, as what the definition gives there.
-use Prim.Native.Nat.{ℕ, ◌<◌}
-use mathlib.Core.Path.{◌≡◌, sym, ◌∙◌}
-use mathlib.Core.Bool.{true, false}
-use mathlib.Core.List.{List}
-use mathlib.Core.Option.{some}
-use native.Mathlib.Omega.{arith}
-use lib.ListN.{length, take, drop, length-take}
-use lib.Ieee.{nan, inf}
+use Rattle.std.proofs.Common.{◌≡◌, ℕ, Bool, cond, true, false, List, take, drop, eqb, refl, sym, ◌∙◌}
+use Rattle.std.specs.Cmp.Lexicographic.{pointwise}
+use Rattle.std.proofs.lemmas.Slice.Eq.{slice_eq-Decides}
+use Rattle.std.proofs.lemmas.Bool.Decides.{Decides-eqb}
 use Rattle.session_words.specs.Bytes.{bytes_of, alike}
 use Rattle.session_numbers.specs.Numbers.{bits_of, decimal_of, num_of}
 use Rattle.session_words.proofs.Lists.{cond-true, cond-false}
-use Rattle.session_words.proofs.Runs.{alike_lengths}
+use Rattle.session_words.proofs.Runs.{alike_is}
 
-module _ (s : List ℕ) where
-  pub num_nan : alike s (bytes_of "nan") ≡ true → some nan ≡ num_of s
+apart : (s t : List ℕ) → (s ≡ t → ⊥) → alike s t ≡ false
+apart s t h = go (alike s t) (slice_eq-Decides Decides-eqb s t (alike s t) (sym (alike_is s t))).0
+  where
+    go : (r : Bool) → (r ≡ true → s ≡ t) → r ≡ false
+    go true f = absurd (h (f refl))
+    go false f = refl
+
+-- none of the three words
+module _ (s : List ℕ) (no_nan : s ≡ bytes_of "nan" → ⊥) (no_inf : s ≡ bytes_of "inf" → ⊥) (no_minus_inf : s ≡ bytes_of "-inf" → ⊥) where
+  later : num_of s ≡ cond (alike (take 2 s) (bytes_of "0x")) (bits_of (drop 2 s)) (decimal_of s)
   unfolding num_of
-  num_nan e = sym (cond-true _ _ e)
+  later = cond-false _ _ (apart s _ no_nan) ∙ cond-false _ _ (apart s _ no_inf) ∙ cond-false _ _ (apart s _ no_minus_inf)
 
-  module _ (no_nan : alike s (bytes_of "nan") ≡ false) where
-    pub num_inf : alike s (bytes_of "inf") ≡ true → some (inf false) ≡ num_of s
-    unfolding num_of
-    num_inf e = sym (cond-false _ _ no_nan ∙ cond-true _ _ e)
+  pub num_bits : pointwise eqb (take 2 s) (bytes_of "0x") ≡ true → bits_of (drop 2 s) ≡ num_of s
+  num_bits e = sym (later ∙ cond-true _ _ (sym (alike_is _ _) ∙ e))
 
-    module _ (no_inf : alike s (bytes_of "inf") ≡ false) where
-      pub num_minus_inf : alike s (bytes_of "-inf") ≡ true → some (inf true) ≡ num_of s
-      unfolding num_of
-      num_minus_inf e = sym (cond-false _ _ no_nan ∙ cond-false _ _ no_inf ∙ cond-true _ _ e)
-
-      module _ (no_minus_inf : alike s (bytes_of "-inf") ≡ false) where
-        pub num_bits : alike (take 2 s) (bytes_of "0x") ≡ true → bits_of (drop 2 s) ≡ num_of s
-        unfolding num_of
-        num_bits e = sym (cond-false _ _ no_nan ∙ cond-false _ _ no_inf ∙ cond-false _ _ no_minus_inf ∙ cond-true _ _ e)
-
-        pub num_decimal : alike (take 2 s) (bytes_of "0x") ≡ false → decimal_of s ≡ num_of s
-        unfolding num_of
-        num_decimal e = sym (cond-false _ _ no_nan ∙ cond-false _ _ no_inf ∙ cond-false _ _ no_minus_inf ∙ cond-false _ _ e)
-
-        pub num_short : length s < 2 → decimal_of s ≡ num_of s
-        num_short h = num_decimal (alike_lengths (take 2 s) (bytes_of "0x") (λ e. short e))
-          where
-            short : length (take 2 s) ≡ 2 → ⊥
-            short e = omega (arith, length-take 2 s)
+  pub num_decimal : pointwise eqb (take 2 s) (bytes_of "0x") ≡ false → decimal_of s ≡ num_of s
+  num_decimal e = sym (later ∙ cond-false _ _ (sym (alike_is _ _) ∙ e))

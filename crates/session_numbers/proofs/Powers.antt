@@ -26,3 +26,12 @@ joins b v w i j h k = rw pow-add (lt_of_lt_of_le (next (v * b ^ j) w (b ^ j) k) 
   where
     next : (x d p : ℕ) → d < p → x + d < x + p
     next x d p k = omega arith
+
+-- one more digit than i, of n that find room
+pub finds_room : (b v d i n m : ℕ) → v < b ^ i → d < b → i < n → b ^ n < m → v * b + d < m
+finds_room b v d i n m h k l r =
+    let p : 0 < b = omega arith in
+    let l : i + 1 ≤ n = omega arith in
+    let g : v * b + d < b ^ (i + 1) = grows b v d i h k in
+    let q : b ^ (i + 1) ≤ b ^ n = pow-le-pow_right p l in
+    omega arith

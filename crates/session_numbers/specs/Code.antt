@@ -1,26 +1,21 @@
--- What the private functions return.
-use Rattle.std.specs.Prelude.{ℕ, ◌^◌, ◌<◌, cond, ℤ, pos, neg_ℤ}
-use Rattle.std.proofs.Math.Option.{Option, none, some}
-use Rattle.session_numbers.specs.Numbers.{is_hex_digit, hex_digit}
-use Rattle.session_numbers.specs.declared.DigitsWord.{DigitsWord}
-use Rattle.session_numbers.specs.declared.DigitsWord.TheVariants as digits
-use Rattle.session_numbers.specs.declared.WholeWord.{WholeWord}
-use Rattle.session_numbers.specs.declared.WholeWord.TheVariants as whole
+-- What the private functions return, and what a whole number is told as.
+use Rattle.std.specs.Prelude.{◌≡◌, ℕ, ◌+◌, ◌*◌, cond, List, [], ◌∷◌, ℤ, Option, None, Some, Result, nat_lt, option_and_then}
+use Rattle.std.specs.Char.{is_ascii_uppercase, digit_value}
+use Rattle.std.specs.Result.{result_ok}
 
-abbrev pub told_digits : DigitsWord → Option ℕ
-told_digits (digits.Value n) = some n
-told_digits digits.Malformed = none
+-- the value of a digit below a radix; a letter is one in lower case alone
+abbrev pub digit_in : ℕ → ℕ → Option ℕ
+digit_in radix b = cond (is_ascii_uppercase b) None (cond (nat_lt (digit_value b) radix) (Some (digit_value b)) None)
 
--- a value of n digits is below 10 ^ n
-abbrev pub AtMost : DigitsWord → ℕ → Type 0
-AtMost (digits.Value v) n = v < 10 ^ n
-AtMost digits.Malformed n = Unit
+-- the number that digits write when they follow those of v
+unfoldable pub run_after : ℕ → ℕ → List ℕ → Option ℕ
+run_after radix v [] = Some v
+run_after radix v (b ∷ s) = option_and_then (λ d. run_after radix (v * radix + d) s) (digit_in radix b)
 
-abbrev pub told_whole : WholeWord → Option ℤ
-told_whole (whole.Natural n) = some (pos n)
-told_whole (whole.Negative n) = some (neg_ℤ (pos n))
-told_whole whole.Malformed = none
+abbrev pub run_in : ℕ → List ℕ → Option ℕ
+run_in radix s = run_after radix 0 s
 
--- the value of a hex digit; 16 for another byte
-abbrev pub hex_digit_of : ℕ → ℕ
-hex_digit_of b = cond (is_hex_digit b) (hex_digit b) 16
+-- a whole number as a type's own `try_from` tells it, where the word is one and the type holds it
+abbrev pub Told : {A E : Type 0} → (ℤ → Result A E → Type 0) → Option ℤ → Option A → Type 0
+Told gives None r = r ≡ None
+Told {A} {E} gives (Some z) r = (o : Result A E) × gives z o × (r ≡ result_ok o)

@@ -1,4 +1,3 @@
 -- The numbers of a session file (docs/session-format.md, section Words). Start with `Numbers`; `Code` is what the private functions return.
 pub mod Numbers
-pub mod Told
 pub mod Code

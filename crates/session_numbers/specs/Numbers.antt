@@ -1,16 +1,10 @@
 -- Session files, section Words: which words are numbers, and their values.
-use Rattle.std.specs.Prelude.{ℕ, suc, ◌+◌, ◌-◌, ◌*◌, ◌^◌, Bool, true, false, cond, ◌&&◌, ◌||◌, List, [], ◌∷◌, ◌++◌, length, take, drop, eqb, leb, ltb, ℤ, pos, negsuc, neg_ℤ, nat_abs, Float}
-use Rattle.std.proofs.Math.Option.{Option, none, some}
+use Rattle.std.specs.Prelude.{ℕ, suc, ◌+◌, ◌-◌, ◌*◌, ◌^◌, Bool, true, false, cond, ◌&&◌, ◌||◌, List, [], ◌∷◌, ◌++◌, length, take, drop, eqb, leb, ltb, ℤ, pos, negsuc, neg_ℤ, nat_abs, Float, Option, None, Some, option_map}
 use Rattle.std.specs.Int.Signed.{le_z}
 use Rattle.std.specs.Float.{nan, inf, binary32}
 use Rattle.std.specs.Float.Ieee.{of_int, of_bits, div, neg}
 use Rattle.byte_scan.specs.Bytes.{index_of}
 use Rattle.session_words.specs.Bytes.{minus, bytes_of, alike}
-
--- the value of a word, where it has one, put to a function
-abbrev pub also : {A B : Type 0} → (A → B) → Option A → Option B
-also f none = none
-also f (some a) = some (f a)
 
 -- a decimal digit, `0` to `9`
 abbrev pub is_digit : ℕ → Bool
@@ -34,7 +28,7 @@ is_run s = ltb 0 (length s) && all_digits s
 
 -- the value of 1 to so many digits; leading zeros count
 unfoldable pub digits_of : ℕ → List ℕ → Option ℕ
-digits_of most s = cond (is_run s && leb (length s) most) (some (value_of s)) none
+digits_of most s = cond (is_run s && leb (length s) most) (Some (value_of s)) None
 
 -- the most digits of a whole number
 abbrev pub whole_digits : ℕ
@@ -42,8 +36,8 @@ whole_digits = 10
 
 -- an optional minus sign: what is read after it becomes a number below 0, and without it the plain one
 unfoldable pub with_sign : {A B : Type 0} → (A → B) → (A → B) → (List ℕ → Option A) → List ℕ → Option B
-with_sign below plain read [] = none
-with_sign below plain read (b ∷ s) = cond (eqb b minus) (also below (read s)) (also plain (read (b ∷ s)))
+with_sign below plain read [] = None
+with_sign below plain read (b ∷ s) = cond (eqb b minus) (option_map below (read s)) (option_map plain (read (b ∷ s)))
 
 -- a whole number: an optional minus sign and 1 to 10 digits; -0 is 0
 unfoldable pub whole_of : List ℕ → Option ℤ
@@ -51,12 +45,12 @@ whole_of s = with_sign (λ n. neg_ℤ (pos n)) pos (digits_of whole_digits) s
 
 -- a whole number, where it lies from low to high
 abbrev pub within : ℤ → ℤ → Option ℤ → Option ℤ
-within low high none = none
-within low high (some z) = cond (le_z low z && le_z z high) (some z) none
+within low high None = None
+within low high (Some z) = cond (le_z low z && le_z z high) (Some z) None
 
 -- a whole number from 0 to the highest
 unfoldable pub natural_of : ℕ → List ℕ → Option ℕ
-natural_of highest s = also nat_abs (within (pos 0) (pos highest) (whole_of s))
+natural_of highest s = option_map nat_abs (within (pos 0) (pos highest) (whole_of s))
 
 -- CH: 0 to 65,535
 abbrev pub channel_of : List ℕ → Option ℕ
@@ -84,14 +78,14 @@ quotient v k = div binary32 (of_int binary32 (pos v)) (of_int binary32 (pos (10 
 
 -- digits before a point and after it, at least one each, at most 7 in all
 unfoldable pub fraction_of : List ℕ → List ℕ → Option Float
-fraction_of s t = cond (is_run s && is_run t && leb (length s + length t) decimal_digits) (some (quotient (value_of (s ++ t)) (length t))) none
+fraction_of s t = cond (is_run s && is_run t && leb (length s + length t) decimal_digits) (Some (quotient (value_of (s ++ t)) (length t))) None
 
 -- a decimal without a sign
 unfoldable pub unsigned_of : List ℕ → Option Float
 unsigned_of s =
     cond (ltb (index_of point s) (length s))
     (fraction_of (take (index_of point s) s) (drop (suc (index_of point s)) s))
-    (also (λ v. quotient v 0) (digits_of decimal_digits s))
+    (option_map (λ v. quotient v 0) (digits_of decimal_digits s))
 
 -- a decimal: an optional minus sign before it. Minus zero keeps its sign
 unfoldable pub decimal_of : List ℕ → Option Float
@@ -114,13 +108,13 @@ hex_value_after v (b ∷ s) = hex_value_after (v * 16 + hex_digit b) s
 
 -- a float by its bits: exactly 8 hex digits
 unfoldable pub bits_of : List ℕ → Option Float
-bits_of s = cond (eqb (length s) 8 && all_hex_digits s) (some (of_bits binary32 (hex_value_after 0 s))) none
+bits_of s = cond (eqb (length s) 8 && all_hex_digits s) (Some (of_bits binary32 (hex_value_after 0 s))) None
 
 -- NUM: `nan`, `inf`, `-inf`, the bits after `0x`, or a decimal
 unfoldable pub num_of : List ℕ → Option Float
 num_of s =
-    cond (alike s (bytes_of "nan")) (some nan)
-    (cond (alike s (bytes_of "inf")) (some (inf false))
-    (cond (alike s (bytes_of "-inf")) (some (inf true))
+    cond (alike s (bytes_of "nan")) (Some nan)
+    (cond (alike s (bytes_of "inf")) (Some (inf false))
+    (cond (alike s (bytes_of "-inf")) (Some (inf true))
     (cond (alike (take 2 s) (bytes_of "0x")) (bits_of (drop 2 s))
     (decimal_of s))))

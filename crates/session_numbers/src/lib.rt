@@ -1,48 +1,11 @@
-// The numbers of a session file: whole numbers in a range, and single floats.
+// The numbers of a session file: whole numbers, as far as a type holds them, and single floats.
 #![tactic(auto)]
 
-ghost use Rattle.std.specs.Prelude.{◌≡◌, ◌^◌, ◌<◌, ◌≤◌, length};
-ghost use Rattle.std.specs.Float.{binary32};
-ghost use Rattle.std.specs.Float.Ieee.{of_bits};
-ghost use Rattle.session_numbers.specs.Numbers.{digits_of, whole_of, natural_of, int_of, quotient, fraction_of, unsigned_of, decimal_of, bits_of, num_of};
-ghost use Rattle.session_numbers.specs.Told.{told_natural, NotAbove, told_int, told_num};
-ghost use Rattle.session_numbers.specs.Code.{told_digits, told_whole, AtMost, hex_digit_of};
+ghost use Rattle.std.specs.Prelude.{◌≡◌, ◌^◌, ◌<◌, ◌≤◌, length, IfSome, OnSome};
+ghost use Rattle.session_numbers.specs.Numbers.{digits_of, whole_of, quotient, fraction_of, unsigned_of, decimal_of, bits_of, num_of};
+ghost use Rattle.session_numbers.specs.Code.{digit_in, run_in, Told};
 
-use byte_scan::find;
-use session_words::same;
-
-#[derive(Clone, Copy)]
-pub enum NaturalWord {
-    Value(u64),
-    Malformed,
-}
-
-#[derive(Clone, Copy)]
-pub enum IntWord {
-    Value(i32),
-    Malformed,
-}
-
-#[derive(Clone, Copy)]
-pub enum NumWord {
-    Value(f32),
-    Malformed,
-}
-
-// The value of a run of digits.
-#[derive(Clone, Copy)]
-pub enum DigitsWord {
-    Value(u64),
-    Malformed,
-}
-
-// A whole number by its sign and its size.
-#[derive(Clone, Copy)]
-pub enum WholeWord {
-    Natural(u64),
-    Negative(u64),
-    Malformed,
-}
+use std::num::f32_from_bits_with_nan;
 
 // The most digits of a whole number and of a decimal.
 const WHOLE_DIGITS: usize = 10;
@@ -52,261 +15,124 @@ const DECIMAL_DIGITS: usize = 7;
 // The digits of a float's bits.
 const BITS_DIGITS: usize = 8;
 
-// The highest CH and BYTE.
-pub const CH_HIGHEST: u64 = 65_535;
+// The value of a digit; a letter is one in lower case alone.
+fn digit(b: u8, radix: u32) -> Option<u32>
+    requires { (2 ≤ radix) × (radix ≤ 36) }
+    ensures value { result ≡ digit_in radix b }
+    ensures most { IfSome result (λ d. d < radix) }
+{
+    if b.is_ascii_uppercase() {
+        return None;
+    }
+    char::from(b).to_digit(radix)
+}
 
-pub const BYTE_HIGHEST: u64 = 255;
-
-const INT_HIGHEST: u64 = 2_147_483_647;
-
-const INT_LOWEST: i32 = -2_147_483_648;
-
-// An f32's bits: the sign's weight, and the bits of an infinity. What lies above these, without the sign, is a NaN.
-const SIGN: u32 = 0x8000_0000;
-
-const INFINITY: u32 = 0x7f80_0000;
-
-// What a byte that is no hex digit counts as.
-const NO_DIGIT: u32 = 16;
+// The number that a run of digits writes, where each byte is a digit.
+fn run(word: &[u8], radix: u32) -> Option<u64>
+    requires radix { (2 ≤ radix) × (radix ≤ 36) }
+    requires room { radix ^ length word.now < 2 ^ 64 }
+    ensures value { result ≡ run_in radix word.now }
+    ensures most { IfSome result (λ v. v < radix ^ length word.now) }
+{
+    let mut value = 0;
+    for b in word {
+        value = value * u64::from(radix) + u64::from(digit(*b, radix)?);
+    }
+    Some(value)
+}
 
 // The value of 1 to `most` decimal digits.
-fn digits(word: &[u8], most: usize) -> DigitsWord
+fn digits(word: &[u8], most: usize) -> Option<u64>
     requires { most ≤ 10 }
-    ensures value { told_digits result ≡ digits_of most word.now }
-    ensures most { AtMost result (length word.now) }
+    ensures value { result ≡ digits_of most word.now }
+    ensures most { IfSome result (λ v. v < 10 ^ length word.now) }
+    ensures few { OnSome result (length word.now ≤ most) }
 {
-    if word.len() == 0 {
-        return DigitsWord::Malformed;
+    if word.is_empty() || word.len() > most {
+        return None;
     }
-    if word.len() > most {
-        return DigitsWord::Malformed;
-    }
-    let mut value = 0;
-    let mut i = 0;
-    while i < word.len() {
-        let b = word[i];
-        if b < b'0' {
-            return DigitsWord::Malformed;
-        }
-        if b > b'9' {
-            return DigitsWord::Malformed;
-        }
-        value = value * 10 + ((b - b'0') as u64);
-        i += 1;
-    }
-    DigitsWord::Value(value)
+    run(word, 10)
 }
 
 // A whole number: an optional minus sign and 1 to 10 digits.
-fn whole(word: &[u8]) -> WholeWord
-    ensures { told_whole result ≡ whole_of word.now }
+fn whole(word: &[u8]) -> Option<i64>
+    ensures { result ≡ whole_of word.now }
 {
-    if word.len() == 0 {
-        return WholeWord::Malformed;
-    }
-    if word[0] == b'-' {
-        match digits(&word[1..], WHOLE_DIGITS) {
-            DigitsWord::Value(v) => WholeWord::Negative(v),
-            DigitsWord::Malformed => WholeWord::Malformed,
-        }
-    } else {
-        match digits(word, WHOLE_DIGITS) {
-            DigitsWord::Value(v) => WholeWord::Natural(v),
-            DigitsWord::Malformed => WholeWord::Malformed,
-        }
+    match word.strip_prefix(b"-") {
+        Some(size) => Some(-(digits(size, WHOLE_DIGITS)? as i64)),
+        None => Some(digits(word, WHOLE_DIGITS)? as i64),
     }
 }
 
-// A whole number from 0 to the highest, as CH and BYTE are.
-pub fn natural(word: &[u8], highest: u64) -> NaturalWord
-    ensures value { told_natural result ≡ natural_of highest word.now }
-    ensures most { NotAbove result highest }
+// A whole number, where the type holds it.
+pub fn whole_number<T: TryFrom<i64>>(word: &[u8]) -> Option<T>
+where
+    T::Error: Drop,
+    ensures { Told T.try_from_gives (whole_of word.now) result }
 {
-    match whole(word) {
-        WholeWord::Natural(v) => {
-            if v <= highest {
-                NaturalWord::Value(v)
-            } else {
-                NaturalWord::Malformed
-            }
-        }
-        WholeWord::Negative(v) => {
-            if v == 0 {
-                NaturalWord::Value(0)
-            } else {
-                NaturalWord::Malformed
-            }
-        }
-        WholeWord::Malformed => NaturalWord::Malformed,
-    }
-}
-
-// A whole number of 32 bits with a sign.
-pub fn int(word: &[u8]) -> IntWord
-    ensures { told_int result ≡ int_of word.now }
-{
-    match whole(word) {
-        WholeWord::Natural(v) => {
-            if v <= INT_HIGHEST {
-                IntWord::Value(v as i32)
-            } else {
-                IntWord::Malformed
-            }
-        }
-        WholeWord::Negative(v) => {
-            if v <= INT_HIGHEST {
-                return IntWord::Value(-(v as i32));
-            }
-            if v == INT_HIGHEST + 1 {
-                IntWord::Value(INT_LOWEST)
-            } else {
-                IntWord::Malformed
-            }
-        }
-        WholeWord::Malformed => IntWord::Malformed,
-    }
-}
-
-// The value of a lower-case hex digit; 16 where the byte is none.
-fn hex_digit(b: u8) -> u32
-    ensures { result ≡ hex_digit_of b }
-{
-    if b < b'0' {
-        return NO_DIGIT;
-    }
-    if b <= b'9' {
-        return (b - b'0') as u32;
-    }
-    if b < b'a' {
-        return NO_DIGIT;
-    }
-    if b <= b'f' {
-        return ((b - b'a') as u32) + 10;
-    }
-    NO_DIGIT
-}
-
-// The float that has these bits.
-fn of_bits(bits: u32) -> f32
-    ensures { result ≡ of_bits binary32 bits }
-{
-    if bits % SIGN > INFINITY {
-        return 0.0 / 0.0;
-    }
-    f32::from_bits(bits)
+    T::try_from(whole(word)?).ok()
 }
 
 // A float by its bits, 8 lower-case hex digits.
-fn bits(word: &[u8]) -> NumWord
-    ensures { told_num result ≡ bits_of word.now }
+fn bits(word: &[u8]) -> Option<f32>
+    ensures { result ≡ bits_of word.now }
 {
     if word.len() != BITS_DIGITS {
-        return NumWord::Malformed;
+        return None;
     }
-    let mut value = 0;
-    let mut i = 0;
-    while i < word.len() {
-        let d = hex_digit(word[i]);
-        if d == NO_DIGIT {
-            return NumWord::Malformed;
-        }
-        value = value * 16 + d;
-        i += 1;
-    }
-    NumWord::Value(of_bits(value))
-}
-
-// 10 to the power k.
-fn power_of_ten(k: usize) -> u32
-    requires { k ≤ 7 }
-    ensures { result ≡ 10 ^ k }
-{
-    let mut p = 1;
-    let mut i = 0;
-    while i < k {
-        p = p * 10;
-        i += 1;
-    }
-    p
+    Some(f32_from_bits_with_nan(run(word, 16)? as u32))
 }
 
 // The nearest float to value / 10 ^ places: both are below 2 ^ 24, so that each is a float, and the division is the one rounding.
-fn nearest(value: u32, places: usize) -> f32
+fn nearest(value: u64, places: u32) -> f32
     requires { (value < 10 ^ 7) × (places ≤ 7) }
     ensures { result ≡ quotient value places }
 {
-    (value as f32) / (power_of_ten(places) as f32)
+    (value as f32) / (10u64.pow(places) as f32)
 }
 
 // Digits before a point and after it, at most 7 in all.
-fn with_fraction(before: &[u8], after: &[u8]) -> NumWord
-    ensures { told_num result ≡ fraction_of before.now after.now }
+fn with_fraction(before: &[u8], after: &[u8]) -> Option<f32>
+    ensures { result ≡ fraction_of before.now after.now }
 {
-    if before.len() > DECIMAL_DIGITS {
-        return NumWord::Malformed;
-    }
-    let room = DECIMAL_DIGITS - before.len();
-    match digits(before, DECIMAL_DIGITS) {
-        DigitsWord::Malformed => NumWord::Malformed,
-        DigitsWord::Value(b) => match digits(after, room) {
-            DigitsWord::Malformed => NumWord::Malformed,
-            DigitsWord::Value(a) => {
-                let value = (b as u32) * power_of_ten(after.len()) + (a as u32);
-                NumWord::Value(nearest(value, after.len()))
-            }
-        },
-    }
+    let room = DECIMAL_DIGITS.checked_sub(before.len())?;
+    let units = digits(before, DECIMAL_DIGITS)?;
+    let parts = digits(after, room)?;
+    let places = after.len() as u32;
+    Some(nearest(units * 10u64.pow(places) + parts, places))
 }
 
 // A decimal without a sign.
-fn unsigned(word: &[u8]) -> NumWord
-    ensures { told_num result ≡ unsigned_of word.now }
+fn unsigned(word: &[u8]) -> Option<f32>
+    ensures { result ≡ unsigned_of word.now }
 {
-    let p = find(word, 0, word.len(), b'.');
-    if p < word.len() {
-        return with_fraction(&word[..p], &word[p + 1..]);
-    }
-    match digits(word, DECIMAL_DIGITS) {
-        DigitsWord::Malformed => NumWord::Malformed,
-        DigitsWord::Value(v) => NumWord::Value(nearest(v as u32, 0)),
+    match word.iter().position(|b| *b == b'.') {
+        Some(p) => with_fraction(&word[..p], &word[p + 1..]),
+        None => Some(nearest(digits(word, DECIMAL_DIGITS)?, 0)),
     }
 }
 
 // A decimal: an optional minus sign, digits and perhaps a point among them. Minus zero keeps its sign.
-fn decimal(word: &[u8]) -> NumWord
-    ensures { told_num result ≡ decimal_of word.now }
+fn decimal(word: &[u8]) -> Option<f32>
+    ensures { result ≡ decimal_of word.now }
 {
-    if word.len() == 0 {
-        return NumWord::Malformed;
-    }
-    if word[0] == b'-' {
-        match unsigned(&word[1..]) {
-            NumWord::Value(x) => NumWord::Value(-x),
-            NumWord::Malformed => NumWord::Malformed,
-        }
-    } else {
-        unsigned(word)
+    match word.strip_prefix(b"-") {
+        Some(size) => Some(-unsigned(size)?),
+        None => unsigned(word),
     }
 }
 
 // A single float: `nan`, an infinity, its bits after `0x`, or a decimal.
-pub fn num(word: &[u8]) -> NumWord
-    ensures { told_num result ≡ num_of word.now }
+pub fn num(word: &[u8]) -> Option<f32>
+    ensures { result ≡ num_of word.now }
 {
-    if same(word, b"nan") {
-        return NumWord::Value(0.0 / 0.0);
+    match word {
+        b"nan" => Some(f32::NAN),
+        b"inf" => Some(f32::INFINITY),
+        b"-inf" => Some(f32::NEG_INFINITY),
+        _ => match word.strip_prefix(b"0x") {
+            Some(digits) => bits(digits),
+            None => decimal(word),
+        },
     }
-    if same(word, b"inf") {
-        return NumWord::Value(1.0 / 0.0);
-    }
-    if same(word, b"-inf") {
-        return NumWord::Value(-1.0 / 0.0);
-    }
-    if word.len() < 2 {
-        return decimal(word);
-    }
-    if same(&word[..2], b"0x") {
-        return bits(&word[2..]);
-    }
-    decimal(word)
 }

@@ -2,4 +2,3 @@
 pub mod Lists
 pub mod Runs
 pub mod Cuts
-pub mod Room

@@ -1,10 +1,12 @@
 // The words of a line of a session file: what stands between its spaces. Bytes copied into a buffer, as far as there is room.
 #![tactic(auto)]
 
-ghost use Rattle.std.specs.Prelude.{◌≡◌, ◌+◌, length};
+ghost use Rattle.std.specs.Prelude.{◌≡◌, ◌+◌, ◌++◌, length, take};
 ghost use Rattle.std.proofs.Math.Seq.{paste};
 ghost use Rattle.session_words.specs.Bytes.{alike, fitting};
 ghost use Rattle.session_words.specs.Words.{words_of, word_at};
+
+use arrayvec::ArrayVec;
 
 // The bytes between two words, and after a line.
 pub const SPACE: u8 = b' ';
@@ -22,6 +24,14 @@ pub fn copy_to(dst: &mut [u8], at: usize, src: &[u8]) -> usize
     let n = src.len().min(dst.len() - at);
     dst[at..at + n].copy_from_slice(&src[..n]);
     at + n
+}
+
+// Adds bytes to those that a buffer holds, as far as there is room.
+pub fn push_fitting<const N: usize>(held: &mut ArrayVec<u8, N>, more: &[u8])
+    ensures { held.new.items ≡ take N (held.old.items ++ more.now) }
+{
+    let n = more.len().min(held.remaining_capacity());
+    let _ = held.try_extend_from_slice(&more[..n]);
 }
 
 // Whether two words are the same bytes.

@@ -2,10 +2,10 @@
 #![tactic(auto)]
 
 ghost use Rattle.std.specs.Prelude.{◌≡◌, true, ◌<◌, length};
-ghost use Rattle.refusal.specs.Told.{told, acceptance, leaves};
+ghost use Rattle.refusal.specs.Told.{told, acceptance};
 ghost use Rattle.sweep_rules.specs.Map.{channels, word_bits, is_set, with_bit, set_bits};
 ghost use Rattle.sweep_rules.specs.Record.{first_swept, swept_channels, swept, fresh_sweep, well_formed};
-ghost use Rattle.sweep_rules.specs.Filing.{with_missed, with_heard, filing, checking};
+ghost use Rattle.sweep_rules.specs.Filing.{with_missed, with_heard, filing, leaves, checking};
 ghost use Rattle.sweep_rules.specs.Next.{lowest_not, next_told};
 ghost use Rattle.sweep_rules.specs.Counts.{counts_told};
 ghost use Rattle.sweep_rules.specs.Told.{next_of_answer, told_next, told_numbers};

@@ -1,34 +1,36 @@
--- By the laws of an optional minus sign.
-use Rattle.std.proofs.Common.{sym, ap, ◌∙◌}
-use Rattle.std.proofs.Math.Option.{none, some}
+-- The sign by `Signs`.
+use Rattle.std.proofs.Common.{◌≡◌, Option, None, Some, refl, ◌∙◌, []}
+use Rattle.std.specs.Prelude.{option_map}
+use Rattle.byte_scan.specs.Bytes.{index_of}
 use lib.Ieee.{neg}
-use Rattle.session_words.proofs.Lists.{rest-is}
-use Rattle.session_numbers.specs.Numbers.{unsigned_of, decimal_of}
-use Rattle.session_numbers.specs.Told.{told_num}
-use Rattle.session_numbers.proofs.Wholes.{sign_none, sign_minus, sign_plain, also_same}
+use Rattle.session_numbers.specs.Numbers.{digits_of, unsigned_of, decimal_of}
+use Rattle.session_numbers.proofs.Signs.{sign_minus, sign_plain}
 use Rattle.session_numbers.proofs.decimal.Goals as goal
 
-pub returns-then-word-eq0 : goal.returns-then-word-eq0
+pub returns-in_err-unsigned-in-Some : goal.returns-in_err-unsigned-in-Some
 unfolding decimal_of
-returns-then-word-eq0 c = sign_none neg (λ x. x) unsigned_of c.args.word.now c.if-word-eq0.true
+returns-in_err-unsigned-in-Some c =
+    let strip = c.in-Some.ensures.cases in
+    c.from_residual.ensures ∙ sign_minus neg (λ x. x) unsigned_of c.args.word.now c.in-Some.size.now None strip.0 strip.1 c.in_err-unsigned-in-Some.ensures
 
-pub returns-in-Value : goal.returns-in-Value
+pub returns-in_ok-unsigned-in-Some : goal.returns-in_ok-unsigned-in-Some
 unfolding decimal_of
-returns-in-Value c =
-    let w = c.args.word.now in
-    sign_minus neg (λ x. x) unsigned_of w (some c.in-Value.x) c.if-word-eq0.false c.if-word-eq45.true
-    (c.in-Value.ensures ∙ ap unsigned_of (rest-is w 1))
+returns-in_ok-unsigned-in-Some c =
+    let strip = c.in-Some.ensures.cases in
+    let k = c.in_ok-unsigned-in-Some in
+    sign_minus neg (λ x. x) unsigned_of c.args.word.now c.in-Some.size.now (Some k.field-0) strip.0 strip.1 k.ensures
 
-pub returns-in-Malformed : goal.returns-in-Malformed
-unfolding decimal_of
-returns-in-Malformed c =
-    let w = c.args.word.now in
-    sign_minus neg (λ x. x) unsigned_of w none c.if-word-eq0.false c.if-word-eq45.true
-    (c.in-Malformed.ensures ∙ ap unsigned_of (rest-is w 1))
+-- what a word tells, as it is
+same : {A : Type 0} (o : Option A) → o ≡ option_map (λ x. x) o
+same None = refl
+same (Some a) = refl
 
-pub returns-else-word-eq45 : goal.returns-else-word-eq45
+none : None ≡ unsigned_of []
+unfolding unsigned_of digits_of index_of
+none = refl
+
+pub returns-in-None : goal.returns-in-None
 unfolding decimal_of
-returns-else-word-eq45 c =
-    let u = c.unsigned-else-word-eq45 in
-    sym (also_same (told_num u.result))
-    ∙ sign_plain neg (λ x. x) unsigned_of c.args.word.now (told_num u.result) c.if-word-eq0.false c.if-word-eq45.false u.ensures
+returns-in-None c =
+    let r = c.unsigned-in-None in
+    same r.result ∙ sign_plain neg (λ x. x) unsigned_of c.args.word.now r.result c.in-None.ensures.cases none r.ensures

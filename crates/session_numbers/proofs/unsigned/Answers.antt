@@ -1,49 +1,42 @@
 -- With a point and without (`Decimals`).
-use Rattle.std.proofs.Common.{◌≡◌, ℕ, suc, ◌+◌, ◌^◌, ◌<◌, ◌≤◌, List, length, take, drop, ap, ◌∙◌, add-one, arith}
-use Rattle.std.proofs.Math.Option.{some}
-use mathlib.Core.Path.{subst}
-use lib.Dec.{lit<}
-use Rattle.byte_scan.specs.Bytes.{index_of, slice}
-use Rattle.session_words.proofs.Cuts.{to_end}
+use Rattle.std.proofs.Common.{◌==◌, ◌+◌, take, length, Some, ap, sym, ◌∙◌, rules, tests, arith}
+use Rattle.std.specs.Prelude.{option_map}
+use Rattle.std.proofs.lemmas.Iterator.{YieldsList-from_slice}
+use Rattle.std.proofs.lemmas.Iterator.Search.{position_from_yields_List}
 use Rattle.session_words.proofs.Lists.{rest-is}
-use Rattle.session_numbers.specs.Numbers.{also, point, digits_of, decimal_digits, quotient, fraction_of}
+use lib.Dec.{lit<}
+use Rattle.session_numbers.specs.Numbers.{quotient, fraction_of}
 use Rattle.session_numbers.proofs.Powers.{below}
-use Rattle.session_numbers.proofs.Decimals.{run_some, unsigned_point, unsigned_plain}
+use Rattle.session_numbers.proofs.Decimals.{unsigned_point, unsigned_plain}
 use Rattle.session_numbers.proofs.unsigned.Goals as goal
 
--- the search goes through the whole word
-place_is : (w : List ℕ) {p : ℕ} → p ≡ 0 + index_of point (slice 0 (length w) w) → p ≡ index_of point w
-place_is w e = let i : index_of point (slice 0 (length w) w) ≡ index_of point w = ap (index_of point) (to_end 0 w) in omega (arith, e, i)
-
--- a value of at most 7 digits
-seven : (w : List ℕ) (v : ℕ) → some v ≡ digits_of decimal_digits w → v < 10 ^ length w → v < 10000000
-seven w v e h = below 10 v (length w) 7 (lit< tt) h (run_some decimal_digits w v e).most
-
-pub returns-then-p-word : goal.returns-then-p-word
-returns-then-p-word c =
+pub returns-in-Some : goal.returns-in-Some
+returns-in-Some c =
     let w = c.args.word.now in
-    let p = c.find-p.result in
-    let e : p ≡ index_of point w = place_is w c.find-p.ensures.place in
-    let l : index_of point w < length w = subst (λ q. q < length w) e c.if-p-word.true in
-    c.with_fraction.ensures
-    ∙ ap (fraction_of (take p w)) (rest-is w (p + 1) ∙ ap (λ q. drop q w) (add-one p))
-    ∙ ap (λ q. fraction_of (take q w) (drop (suc q) w)) e
-    ∙ unsigned_point w l
+    let p = c.in-Some.p in
+    let place = position_from_yields_List (λ x. x == 46) _ _ c.position.result c.position.ensures.ran (YieldsList-from_slice w c.iter.ensures.rest)
+    (λ x q k h. search (rules, tests)) in
+    c.with_fraction.ensures ∙ ap (fraction_of (take p w)) (rest-is w (p + 1)) ∙ unsigned_point w p (sym c.in-Some.is ∙ place)
 
-pub overflow_cast-v : goal.overflow_cast-v
-overflow_cast-v c = omega (arith, seven c.args.word.now c.in-Value.v c.in-Value.ensures.value c.in-Value.ensures.most)
+pub returns-in_err-digits-in-None : goal.returns-in_err-digits-in-None
+returns-in_err-digits-in-None c =
+    let w = c.args.word.now in
+    let place = position_from_yields_List (λ x. x == 46) _ _ c.position.result c.position.ensures.ran (YieldsList-from_slice w c.iter.ensures.rest)
+    (λ x q k h. search (rules, tests)) in
+    c.from_residual.ensures
+    ∙ ap (option_map (λ v. quotient v 0)) c.in_err-digits-in-None.ensures.value
+    ∙ unsigned_plain w (sym c.in-None.is ∙ place)
 
 pub nearest-requires : goal.nearest-requires
-nearest-requires c = (seven c.args.word.now c.in-Value.v c.in-Value.ensures.value c.in-Value.ensures.most, omega arith)
+nearest-requires c =
+    let k = c.in_ok-digits-in-None in
+    (below 10 k.field-0 (length c.args.word.now) 7 (lit< tt) k.ensures.most k.ensures.few, omega arith)
 
-pub returns-in-Malformed : goal.returns-in-Malformed
-returns-in-Malformed c =
+pub returns-in_ok-digits-in-None : goal.returns-in_ok-digits-in-None
+returns-in_ok-digits-in-None c =
     let w = c.args.word.now in
-    let l : length w ≤ index_of point w = subst (λ q. length w ≤ q) (place_is w c.find-p.ensures.place) c.if-p-word.false in
-    ap (also (λ v. quotient v 0)) c.in-Malformed.ensures.value ∙ unsigned_plain w l
-
-pub returns-in-Value : goal.returns-in-Value
-returns-in-Value c =
-    let w = c.args.word.now in
-    let l : length w ≤ index_of point w = subst (λ q. length w ≤ q) (place_is w c.find-p.ensures.place) c.if-p-word.false in
-    ap some c.nearest.ensures ∙ ap (also (λ v. quotient v 0)) c.in-Value.ensures.value ∙ unsigned_plain w l
+    let place = position_from_yields_List (λ x. x == 46) _ _ c.position.result c.position.ensures.ran (YieldsList-from_slice w c.iter.ensures.rest)
+    (λ x q k h. search (rules, tests)) in
+    ap Some c.nearest.ensures
+    ∙ ap (option_map (λ v. quotient v 0)) c.in_ok-digits-in-None.ensures.value
+    ∙ unsigned_plain w (sym c.in-None.is ∙ place)

@@ -1,60 +1,45 @@
 -- The digits before and after the point are those of one number (`Decimals`).
-use Rattle.std.proofs.Common.{◌≡◌, ℕ, ◌+◌, ◌-◌, ◌*◌, ◌^◌, ◌<◌, ◌≤◌, List, length, ap, ◌∙◌, arith}
+use Rattle.std.proofs.Common.{◌≡◌, ℕ, ◌+◌, ◌-◌, ◌*◌, ◌^◌, ◌<◌, ◌≤◌, length, ap, ◌∙◌, arith}
 use mathlib.Core.Path.{subst⁻¹}
+use native.Mathlib.Nat.{lt_of_not-le}
 use lib.Dec.{lit<}
-use Rattle.session_numbers.specs.Numbers.{decimal_digits, quotient, digits_of}
-use Rattle.std.proofs.Math.Option.{some}
+use Rattle.session_numbers.specs.Numbers.{quotient, digits_of}
 use Rattle.session_numbers.proofs.Powers.{below, joins}
 use Rattle.session_numbers.proofs.Decimals.{run_some, fraction_long, fraction_first, fraction_second, fraction_both}
 use Rattle.session_numbers.proofs.with_fraction.Goals as goal
 
--- a run has no more digits than it may
-few : (most : ℕ) (s : List ℕ) (v : ℕ) → some v ≡ digits_of most s → length s ≤ most
-few most s v e = (run_some most s v e).most
-
 -- both runs as one number
-module _ (s t : List ℕ) (b a p : ℕ) (e : some b ≡ digits_of decimal_digits s) (f : some a ≡ digits_of (decimal_digits - length s) t) where
-  seven : b < 10 ^ length s → a < 10 ^ length t → p ≡ 10 ^ length t → b * p + a < 10000000
-  seven k l q =
-      let m : length s + length t ≤ 7 = omega (arith, few decimal_digits s b e, few (decimal_digits - length s) t a f) in
-      subst⁻¹ (λ p. b * p + a < 10000000) q (below 10 (b * 10 ^ length t + a) (length s + length t) 7 (lit< tt) (joins 10 b a (length s) (length t) k l) m)
+seven : (b a p m n : ℕ) → b < 10 ^ m → a < 10 ^ n → m + n ≤ 7 → p ≡ 10 ^ n → b * p + a < 10000000
+seven b a p m n h k l q = subst⁻¹ (λ p. b * p + a < 10000000) q (below 10 (b * 10 ^ n + a) (m + n) 7 (lit< tt) (joins 10 b a m n h k) l)
 
-pub returns-then-before-gt-DECIMAL_DIGITS : goal.returns-then-before-gt-DECIMAL_DIGITS
-returns-then-before-gt-DECIMAL_DIGITS c = fraction_long _ _ c.if-before-gt-DECIMAL_DIGITS.true
+pub returns-in_err-room : goal.returns-in_err-room
+returns-in_err-room c = c.from_residual.ensures ∙ fraction_long c.args.«before».now c.args.after.now (lt_of_not-le c.in_err-room.ensures)
 
-pub power_of_ten-requires : goal.power_of_ten-requires
-power_of_ten-requires c =
-    omega (arith, few (decimal_digits - length c.args.«before».now) c.args.after.now c.in-Value-digits.a c.in-Value-digits.ensures.value)
+pub returns-in_err-units : goal.returns-in_err-units
+returns-in_err-units c =
+    c.from_residual-in_err-units.ensures
+    ∙ fraction_first c.args.«before».now c.args.after.now c.in_ok-room.ensures.0 c.in_err-units.ensures.value
 
-pub overflow_mul-value : goal.overflow_mul-value
-overflow_mul-value c =
-    let h = seven c.args.«before».now c.args.after.now c.in-Value.b c.in-Value-digits.a c.power_of_ten.result
-    c.in-Value.ensures.value c.in-Value-digits.ensures.value c.in-Value.ensures.most c.in-Value-digits.ensures.most c.power_of_ten.ensures in
-    omega (arith, h)
-
-pub overflow_add-value : goal.overflow_add-value
-overflow_add-value c =
-    let h = seven c.args.«before».now c.args.after.now c.in-Value.b c.in-Value-digits.a c.power_of_ten.result
-    c.in-Value.ensures.value c.in-Value-digits.ensures.value c.in-Value.ensures.most c.in-Value-digits.ensures.most c.power_of_ten.ensures in
-    omega (arith, h)
+pub returns-in_err-parts : goal.returns-in_err-parts
+returns-in_err-parts c =
+    c.from_residual-in_err-parts.ensures
+    ∙ fraction_second c.args.«before».now c.args.after.now c.in_ok-room.ensures.0
+    (c.in_err-parts.ensures.value ∙ ap (λ n. digits_of n c.args.after.now) c.in_ok-room.ensures.1)
 
 pub nearest-requires : goal.nearest-requires
 nearest-requires c =
-    let h = seven c.args.«before».now c.args.after.now c.in-Value.b c.in-Value-digits.a c.power_of_ten.result
-    c.in-Value.ensures.value c.in-Value-digits.ensures.value c.in-Value.ensures.most c.in-Value-digits.ensures.most c.power_of_ten.ensures in
-    (h, omega (arith, few (decimal_digits - length c.args.«before».now) c.args.after.now c.in-Value-digits.a c.in-Value-digits.ensures.value))
+    let u = c.in_ok-units.ensures in
+    let p = c.in_ok-parts.ensures in
+    let few : length c.args.«before».now + length c.args.after.now ≤ 7 = omega arith in
+    (seven c.in_ok-units.units c.in_ok-parts.parts c.pow.result _ _ u.most p.most few c.pow.ensures, omega arith)
 
-pub returns-in-Malformed : goal.returns-in-Malformed
-returns-in-Malformed c = fraction_first _ _ c.if-before-gt-DECIMAL_DIGITS.false c.in-Malformed.ensures.value
-
-pub returns-in-Malformed-digits : goal.returns-in-Malformed-digits
-returns-in-Malformed-digits c = fraction_second _ _ c.if-before-gt-DECIMAL_DIGITS.false c.in-Malformed-digits.ensures.value
-
-pub returns-in-Value-digits : goal.returns-in-Value-digits
-returns-in-Value-digits c =
+pub returns : goal.returns
+returns c =
     let s = c.args.«before».now in
     let t = c.args.after.now in
-    fraction_both s t c.in-Value.b c.in-Value-digits.a c.nearest.result
-    (run_some decimal_digits s c.in-Value.b c.in-Value.ensures.value)
-    (run_some (decimal_digits - length s) t c.in-Value-digits.a c.in-Value-digits.ensures.value)
-    (c.nearest.ensures ∙ ap (λ p. quotient (c.in-Value.b * p + c.in-Value-digits.a) (length t)) c.power_of_ten.ensures)
+    let u = c.in_ok-units in
+    let p = c.in_ok-parts in
+    fraction_both s t u.units p.parts c.nearest.result
+    (run_some 7 s u.units u.ensures.value)
+    (run_some (7 - length s) t p.parts (p.ensures.value ∙ ap (λ n. digits_of n t) c.in_ok-room.ensures.1))
+    (c.nearest.ensures ∙ ap (λ q. quotient (u.units * q + p.parts) (length t)) c.pow.ensures)

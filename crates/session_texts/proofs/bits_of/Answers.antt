@@ -1,9 +1,9 @@
--- A float that does not equal itself is a NaN.
-use Rattle.std.proofs.Common.{ap}
+-- A NaN has one pattern of bits.
+use Rattle.std.proofs.Common.{sym, ap, ◌∙◌}
 use lib.Ieee.{binary32, to_bits}
-use Rattle.session_texts.proofs.Writing.{is_nan_lem}
+use Rattle.session_texts.proofs.Writing.{nan_is}
 use Rattle.session_texts.proofs.bits_of.Goals as goal
 
-pub returns-else-x : goal.returns-else-x
+pub returns-then-is_nan : goal.returns-then-is_nan
 unfolding to_bits
-returns-else-x c = ap (to_bits binary32) (is_nan_lem c.args.x c.if-x.false)
+returns-then-is_nan c = ap (to_bits binary32) (nan_is c.args.x (sym c.is_nan.ensures.value ∙ c.if-is_nan.true))

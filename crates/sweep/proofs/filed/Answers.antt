@@ -5,7 +5,7 @@ use Rattle.std.specs.Prelude.{Float}
 use Rattle.std.proofs.lemmas.Result.{err_from_is_err_and}
 use Rattle.refusal.specs.declared.Refusal.TheVariants.{RecordNotWellFormed}
 use Rattle.refusal.specs.declared.Reason.{Reason}
-use Rattle.refusal.specs.Told.{refused, gives, accepted, acceptance, leaves}
+use Rattle.refusal.specs.Told.{refused, gives, accepted, acceptance}
 use Rattle.refusal.proofs.OneToOne.{gives_refused}
 use Rattle.refusal.proofs.Provided.{passed_test, refused_by}
 use Rattle.readings_rules.specs.declared.Burst.{Burst}
@@ -13,7 +13,7 @@ use Rattle.readings_rules.specs.Told.{result_of}
 use Rattle.sweep_rules.specs.declared.Sweep.{Sweep}
 use Rattle.readings_rules.specs.Burst.{burst_of}
 use Rattle.sweep_rules.specs.Record.{swept, visited, well_formed}
-use Rattle.sweep_rules.specs.Filing.{with_burst, with_heard, filing, checking}
+use Rattle.sweep_rules.specs.Filing.{leaves, with_burst, with_heard, filing, checking}
 use Rattle.sweep_rules.proofs.Filed.{file_9, file_2, file_3, file_in, burst_missed, burst_heard, burst_refused}
 use Rattle.sweep.proofs.filed.Goals as goal
 

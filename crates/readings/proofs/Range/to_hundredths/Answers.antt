@@ -1,5 +1,5 @@
 -- The two tests are those of the definition, of the ends themselves.
-use Rattle.std.proofs.Common.{◌≡◌, ◌<◌, Bool, ℤ, nat_abs, to_z, of_z, w32, subst, ◌∙◌}
+use Rattle.std.proofs.Common.{◌≡◌, ◌<◌, Bool, ℤ, nat_abs, w32, subst, ◌∙◌}
 use lib.Ieee.{Float, binary32, of_int, le}
 use mir.ValLaws.{to_z-of_z}
 use borrow.Author.Rules.{sfits_of}
