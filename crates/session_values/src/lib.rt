@@ -1,59 +1,42 @@
 // The numbers of a line of a session file, and the burst of two of them: its words read as numbers, by their places from 0 on.
 #![tactic(auto)]
 
-ghost use Rattle.std.specs.Prelude.{◌≡◌, ◌≤◌};
-ghost use Rattle.std.proofs.Math.Option.{get_or};
-ghost use Rattle.session_words.specs.Words.{words_of, word_at};
-ghost use Rattle.session_numbers.specs.Numbers.{natural_of};
-ghost use Rattle.session_values.specs.Values.{CH, BYTE, INT, NUM, heard, listed};
+ghost use Rattle.std.specs.Prelude.{◌≡◌};
+ghost use Rattle.session_words.specs.Words.{words_of};
+ghost use Rattle.session_values.specs.Values.{CH, BYTE, INT, NUM, heard, listed, channels_of};
 
+use arrayvec::ArrayVec;
 use readings_rules::{Burst, Reading};
-use session_numbers::{BYTE_HIGHEST, CH_HIGHEST, IntWord, NaturalWord, NumWord, int, natural, num};
-use session_words::word;
+use session_numbers::{num, whole_number};
+use session_words::{SPACE, word};
+use std::array;
 
 // The most channels of a list: CH.. stands for so many at most.
 pub const LISTED: usize = 8;
-
-// The word at a place as a number up to the highest; where it is none, 0.
-fn natural_at(line: &[u8], k: usize, highest: u64) -> u64
-    ensures value { result ≡ get_or (natural_of highest (word_at (words_of line.now) k)) 0 }
-    ensures most { result ≤ highest }
-{
-    match natural(word(line, k), highest) {
-        NaturalWord::Value(n) => n,
-        NaturalWord::Malformed => 0,
-    }
-}
 
 // The word at a place as a CH, a BYTE, an INT or a NUM; where it is none, 0.
 pub fn channel_at(line: &[u8], k: usize) -> u16
     ensures { result ≡ CH (words_of line.now) k }
 {
-    natural_at(line, k, CH_HIGHEST) as u16
+    whole_number::<u16>(word(line, k)).unwrap_or(0)
 }
 
 pub fn byte_at(line: &[u8], k: usize) -> u8
     ensures { result ≡ BYTE (words_of line.now) k }
 {
-    natural_at(line, k, BYTE_HIGHEST) as u8
+    whole_number::<u8>(word(line, k)).unwrap_or(0)
 }
 
 pub fn int_at(line: &[u8], k: usize) -> i32
     ensures { result ≡ INT (words_of line.now) k }
 {
-    match int(word(line, k)) {
-        IntWord::Value(z) => z,
-        IntWord::Malformed => 0,
-    }
+    whole_number::<i32>(word(line, k)).unwrap_or(0)
 }
 
 pub fn num_at(line: &[u8], k: usize) -> f32
     ensures { result ≡ NUM (words_of line.now) k }
 {
-    match num(word(line, k)) {
-        NumWord::Value(x) => x,
-        NumWord::Malformed => 0.0,
-    }
+    num(word(line, k)).unwrap_or(0.0)
 }
 
 // A burst that was heard: the level at a place of the line, and the quality after it. A place of 32 bits always has one after it.
@@ -72,14 +55,16 @@ pub fn channels_at(line: &[u8], place: u32) -> [u16; LISTED]
     ensures { result ≡ listed (words_of line.now) place }
 {
     let k = place as usize;
-    [
-        channel_at(line, k),
-        channel_at(line, k + 1),
-        channel_at(line, k + 2),
-        channel_at(line, k + 3),
-        channel_at(line, k + 4),
-        channel_at(line, k + 5),
-        channel_at(line, k + 6),
-        channel_at(line, k + 7),
-    ]
+    array::from_fn(|i| channel_at(line, k + i))
+}
+
+// Those of them that the line has.
+pub fn list_at(line: &[u8], place: usize) -> ArrayVec<u16, LISTED>
+    ensures { result.items ≡ channels_of (words_of line.now) place }
+{
+    let mut channels = ArrayVec::new();
+    for word in line.split(|b| *b == SPACE).skip(place).take(LISTED) {
+        channels.push(whole_number(word).unwrap_or(0));
+    }
+    channels
 }

@@ -17,7 +17,7 @@ use Rattle.watch_rules.proofs.Encode.{track_read, tracks_read}
 use Rattle.watch_record.specs.Code.{nothing, channels_of}
 use Rattle.watch_record.proofs.Places.{place_of, place-within, place_without}
 
-one-more : (k : ℕ) → 1 + k ≡ suc k
+pub one-more : (k : ℕ) → 1 + k ≡ suc k
 one-more k = omega arith
 
 -- the track at the place of a channel is that of the channel's row
