@@ -58,7 +58,7 @@ three_read = set (set (set nothing_read 100 2) 200 4) 300 1
 -- ---- the watch
 
 -- heard at the level with these bits, and a quality of 0 dB
-abbrev pub heard_at : ℕ → Burst
+abbrev pub heard_at : ℕ → Burst Float
 heard_at bits = Heard (record { level = single bits; quality = single 0 })
 
 -- what a call answers after these calls from a fresh watch

@@ -1,32 +1,32 @@
 // Each answer of the library as a host finds it (the crate `host_rules` has the structs and the rule). The calls stand in the crate `royukezan`.
+// Functions and no impls of `From`: those would have to stand beside the structs, and a crate of rules has nothing to run.
 #![tactic(auto)]
 
 ghost use Rattle.std.specs.Prelude.{◌≡◌};
-ghost use Rattle.refusal.specs.Number.{reason_of};
-ghost use Rattle.refusal.specs.Told.{told_outcome};
-ghost use Rattle.readings_rules.specs.Told.{told_hundredths, told_shown, told_burst};
+ghost use Rattle.refusal.specs.Told.{told};
+ghost use Rattle.readings_rules.specs.Told.{told_burst};
 ghost use Rattle.sweep_rules.specs.Told.{told_next, told_numbers};
 ghost use Rattle.choice_rules.specs.Told.{told_choice};
-ghost use Rattle.watch_rules.specs.Told.{told, told_handed};
-ghost use Rattle.power_rules.specs.Told.{told_answer};
-ghost use Rattle.host_rules.specs.Answers.{refusal_number, place_in, refusal_place, hundredths_answer, float_answer, burst_answer, sweep_beside, next_answer, counts_answer, choice_answer, watch_outcome, levels_answer, verdict_answer, power_beside, sent_answer, sent_beside};
+ghost use Rattle.watch_rules.specs.Told.{told_answer as watch_told, told_handed};
+ghost use Rattle.power_rules.specs.Told.{told_answer as power_told};
+ghost use Rattle.host_rules.specs.Answers.{refusal_number, refusal_place, hundredths_answer, float_answer, burst_answer, sweep_beside, next_answer, counts_answer, choice_answer, watch_outcome, levels_answer, verdict_answer, power_beside, sent_answer, sent_beside};
 
-use choice_rules::{Choice, SweepChoice};
+use choice_rules::Choice;
 pub use host_rules::{
     BurstAnswer, ChoiceAnswer, CountsAnswer, FloatAnswer, HundredthsAnswer, LevelsAnswer,
     NextAnswer, PowerOutcome, SentAnswer, SentOutcome, SweepOutcome, VerdictAnswer, WatchOutcome,
 };
-use power_rules::Stepped;
-use readings_rules::{BurstHundredths, Hundredths, Shown};
-use refusal::{Outcome, Reason, Refusal};
-use sweep_rules::{NextChannel, Numbers, SweepNext, SweepNumbers};
-use watch_rules::{Answer, Handed};
+use power_rules::{PowerRecord, Sent};
+use readings_rules::{Burst, Reading};
+use refusal::{Handed, Reason, Refusal};
+use sweep_rules::{Numbers, Sweep};
+use watch_rules::{Answer, Watch};
 
 // The number of an accepted call.
 const ACCEPTED: u32 = 0;
 
 // Where no place is told: no place is so high.
-const NO_PLACE: u32 = 4294967295;
+const NO_PLACE: u32 = u32::MAX;
 
 // The cases of a next channel, of a choice and of a verdict. A refused call has none of them: 0.
 const A_CHANNEL: u16 = 1;
@@ -45,145 +45,140 @@ const STAY: u16 = 2;
 
 const MOVE: u16 = 3;
 
-// The number of a call that gives no value.
-fn outcome_number(a: Outcome) -> u32
-    ensures { result ≡ refusal_number (told_outcome a) }
+// The number of a call.
+fn number<A: Drop>(answer: Result<A, Refusal>) -> u32
+    ensures { result ≡ refusal_number (told answer) }
 {
-    match a {
-        Outcome::Accepted => ACCEPTED,
-        Outcome::Refused(why) => refusal::number(why),
+    match answer {
+        Ok(_) => ACCEPTED,
+        Err(why) => why.number(),
     }
 }
 
-pub fn hundredths_answer(a: Hundredths) -> HundredthsAnswer
-    ensures { result ≡ hundredths_answer (told_hundredths a) }
+pub fn hundredths_answer(answer: Result<i32, Refusal>) -> HundredthsAnswer
+    ensures { result ≡ hundredths_answer (told answer) }
 {
-    match a {
-        Hundredths::Value(hundredths) => HundredthsAnswer {
+    match answer {
+        Ok(hundredths) => HundredthsAnswer {
             refusal: ACCEPTED,
             hundredths,
         },
-        Hundredths::Refused(why) => HundredthsAnswer {
-            refusal: refusal::number(why),
+        Err(why) => HundredthsAnswer {
+            refusal: why.number(),
             hundredths: 0,
         },
     }
 }
 
-pub fn float_answer(a: Shown) -> FloatAnswer
-    ensures { result ≡ float_answer (told_shown a) }
+pub fn float_answer(answer: Result<f32, Refusal>) -> FloatAnswer
+    ensures { result ≡ float_answer (told answer) }
 {
-    match a {
-        Shown::Value(value) => FloatAnswer {
+    match answer {
+        Ok(value) => FloatAnswer {
             refusal: ACCEPTED,
             value,
         },
-        Shown::Refused(why) => FloatAnswer {
-            refusal: refusal::number(why),
+        Err(why) => FloatAnswer {
+            refusal: why.number(),
             value: 0.0,
         },
     }
 }
 
-pub fn burst_answer(a: BurstHundredths) -> BurstAnswer
-    ensures { result ≡ burst_answer (told_burst a) }
+pub fn burst_answer(answer: Result<Burst<i32>, Refusal>) -> BurstAnswer
+    ensures { result ≡ burst_answer (told_burst answer) }
 {
-    match a {
-        BurstHundredths::Heard(h) => BurstAnswer {
-            refusal: ACCEPTED,
-            level: h.level,
-            quality: h.quality,
-        },
-        BurstHundredths::Missed => BurstAnswer {
-            refusal: ACCEPTED,
-            level: 0,
-            quality: 0,
-        },
-        BurstHundredths::Refused(why) => BurstAnswer {
-            refusal: refusal::number(why),
-            level: 0,
-            quality: 0,
-        },
-    }
-}
-
-pub fn sweep_outcome(h: sweep_rules::SweepOutcome) -> SweepOutcome
-    ensures { result ≡ sweep_beside h.sweep (told_outcome h.answer) }
-{
-    let sweep = h.sweep;
-    let answer = h.answer;
-    SweepOutcome {
-        refusal: outcome_number(answer),
-        sweep,
-    }
-}
-
-pub fn next_answer(h: SweepNext) -> NextAnswer
-    ensures { result ≡ next_answer (told_next h.answer) }
-{
-    let answer = h.answer;
     match answer {
-        NextChannel::Channel(channel) => NextAnswer {
+        Ok(Burst::Heard(Reading { level, quality })) => BurstAnswer {
+            refusal: ACCEPTED,
+            level,
+            quality,
+        },
+        Ok(Burst::Missed) => BurstAnswer {
+            refusal: ACCEPTED,
+            level: 0,
+            quality: 0,
+        },
+        Err(why) => BurstAnswer {
+            refusal: why.number(),
+            level: 0,
+            quality: 0,
+        },
+    }
+}
+
+pub fn sweep_outcome(handed: Handed<Sweep, ()>) -> SweepOutcome
+    ensures { result ≡ sweep_beside handed.state (told handed.answer) }
+{
+    SweepOutcome {
+        refusal: number(handed.answer),
+        sweep: handed.state,
+    }
+}
+
+pub fn next_answer(handed: Handed<Sweep, Option<u16>>) -> NextAnswer
+    ensures { result ≡ next_answer (told_next handed.answer) }
+{
+    match handed.answer {
+        Ok(Some(channel)) => NextAnswer {
             refusal: ACCEPTED,
             next: A_CHANNEL,
             channel,
         },
-        NextChannel::Done => NextAnswer {
+        Ok(None) => NextAnswer {
             refusal: ACCEPTED,
             next: DONE,
             channel: 0,
         },
-        NextChannel::Refused(why) => NextAnswer {
-            refusal: refusal::number(why),
+        Err(why) => NextAnswer {
+            refusal: why.number(),
             next: 0,
             channel: 0,
         },
     }
 }
 
-pub fn counts_answer(h: SweepNumbers) -> CountsAnswer
-    ensures { result ≡ counts_answer (told_numbers h.answer) }
+pub fn counts_answer(handed: Handed<Sweep, Numbers>) -> CountsAnswer
+    ensures { result ≡ counts_answer (told_numbers handed.answer) }
 {
-    let answer = h.answer;
-    match answer {
-        Numbers::Of { visited, heard } => CountsAnswer {
+    match handed.answer {
+        Ok(Numbers { visited, heard }) => CountsAnswer {
             refusal: ACCEPTED,
             visited,
             heard,
         },
-        Numbers::Refused(why) => CountsAnswer {
-            refusal: refusal::number(why),
+        Err(why) => CountsAnswer {
+            refusal: why.number(),
             visited: 0,
             heard: 0,
         },
     }
 }
 
-pub fn choice_answer(h: SweepChoice) -> ChoiceAnswer
-    ensures { result ≡ choice_answer (told_choice h.answer) }
+pub fn choice_answer(handed: Handed<Sweep, Choice>) -> ChoiceAnswer
+    ensures { result ≡ choice_answer (told_choice handed.answer) }
 {
-    let answer = h.answer;
-    match answer {
-        Choice::Camp { channel, tried } => ChoiceAnswer {
+    match handed.answer {
+        Ok(Choice::Camp { channel, tried }) => ChoiceAnswer {
             refusal: ACCEPTED,
             choice: CAMP,
             channel,
             tried,
         },
-        Choice::Read { channel, tried } => ChoiceAnswer {
+        Ok(Choice::Read { channel, tried }) => ChoiceAnswer {
             refusal: ACCEPTED,
             choice: READ,
             channel,
             tried,
         },
-        Choice::NoBeam { tried } => ChoiceAnswer {
+        Ok(Choice::NoBeam { tried }) => ChoiceAnswer {
             refusal: ACCEPTED,
             choice: NO_BEAM,
             channel: 0,
             tried,
         },
-        Choice::Refused(why) => ChoiceAnswer {
-            refusal: refusal::number(why),
+        Err(why) => ChoiceAnswer {
+            refusal: why.number(),
             choice: 0,
             channel: 0,
             tried: 0,
@@ -191,131 +186,103 @@ pub fn choice_answer(h: SweepChoice) -> ChoiceAnswer
     }
 }
 
-// The number of a call on a watch.
-fn answer_number(a: Answer) -> u32
-    ensures { result ≡ refusal_number (told a) }
+// The place that is told of a call.
+fn place<A: Drop>(answer: Result<A, Refusal>) -> u32
+    ensures { result ≡ refusal_place (told answer) }
 {
-    if let Answer::Refused(why) = a {
-        return refusal::number(why);
-    }
-    ACCEPTED
-}
-
-// The place that is told of a refusal.
-fn refusal_place(why: Refusal) -> u32
-    ensures { result ≡ place_in (reason_of why) }
-{
-    match refusal::told(why) {
-        Reason::Alone(_) => NO_PLACE,
-        Reason::At { number: _, place } => place,
+    match answer.map_err(Refusal::told) {
+        Err(Reason::At { place, .. }) => place,
+        _ => NO_PLACE,
     }
 }
 
-// The place of a call on a watch.
-fn answer_place(a: Answer) -> u32
-    ensures { result ≡ refusal_place (told a) }
+pub fn watch_outcome(handed: Handed<Watch, Answer>) -> WatchOutcome
+    ensures { result ≡ watch_outcome (told_handed handed) }
 {
-    if let Answer::Refused(why) = a {
-        return refusal_place(why);
-    }
-    NO_PLACE
-}
-
-pub fn watch_outcome(h: Handed) -> WatchOutcome
-    ensures { result ≡ watch_outcome (told_handed h) }
-{
-    let watch = h.watch;
-    let answer = h.answer;
     WatchOutcome {
-        refusal: answer_number(answer),
-        place: answer_place(answer),
-        watch,
+        refusal: number(handed.answer),
+        place: place(handed.answer),
+        watch: handed.state,
     }
 }
 
 // An ask gives levels, or it is refused.
-pub fn levels_answer(h: Handed) -> LevelsAnswer
-    ensures { result ≡ levels_answer (told h.answer) }
+pub fn levels_answer(handed: Handed<Watch, Answer>) -> LevelsAnswer
+    ensures { result ≡ levels_answer (watch_told handed.answer) }
 {
-    let answer = h.answer;
-    if let Answer::Levels { count, mean } = answer {
-        return LevelsAnswer {
+    match handed.answer {
+        Ok(Answer::Levels { count, mean }) => LevelsAnswer {
             refusal: ACCEPTED,
             count,
             mean,
-        };
-    }
-    LevelsAnswer {
-        refusal: answer_number(answer),
-        count: 0,
-        mean: 0,
+        },
+        answer => LevelsAnswer {
+            refusal: number(answer),
+            count: 0,
+            mean: 0,
+        },
     }
 }
 
 // A verdict is one of three, or it is refused.
-pub fn verdict_answer(h: Handed) -> VerdictAnswer
-    ensures { result ≡ verdict_answer (told h.answer) }
+pub fn verdict_answer(handed: Handed<Watch, Answer>) -> VerdictAnswer
+    ensures { result ≡ verdict_answer (watch_told handed.answer) }
 {
-    let answer = h.answer;
-    match answer {
-        Answer::Wait => VerdictAnswer {
+    match handed.answer {
+        Ok(Answer::Wait) => VerdictAnswer {
             refusal: ACCEPTED,
             verdict: WAIT,
             channel: 0,
         },
-        Answer::Stay => VerdictAnswer {
+        Ok(Answer::Stay) => VerdictAnswer {
             refusal: ACCEPTED,
             verdict: STAY,
             channel: 0,
         },
-        Answer::MoveTo(channel) => VerdictAnswer {
+        Ok(Answer::MoveTo(channel)) => VerdictAnswer {
             refusal: ACCEPTED,
             verdict: MOVE,
             channel,
         },
-        _ => VerdictAnswer {
-            refusal: answer_number(answer),
+        answer => VerdictAnswer {
+            refusal: number(answer),
             verdict: 0,
             channel: 0,
         },
     }
 }
 
-pub fn power_outcome(h: power_rules::Handed) -> PowerOutcome
-    ensures { result ≡ power_beside h.power (told_outcome h.answer) }
+pub fn power_outcome(handed: Handed<PowerRecord, ()>) -> PowerOutcome
+    ensures { result ≡ power_beside handed.state (told handed.answer) }
 {
-    let power = h.power;
-    let answer = h.answer;
     PowerOutcome {
-        refusal: outcome_number(answer),
-        power,
+        refusal: number(handed.answer),
+        power: handed.state,
     }
 }
 
-fn sent_answer(a: power_rules::Answer) -> SentAnswer
-    ensures { result ≡ sent_answer (told_answer a) }
+pub fn sent_answer(answer: Result<Sent, Refusal>) -> SentAnswer
+    ensures { result ≡ sent_answer (power_told answer) }
 {
-    match a {
-        power_rules::Answer::Send { par, pan } => SentAnswer {
+    match answer {
+        Ok(Sent { par, pan }) => SentAnswer {
             refusal: ACCEPTED,
             par,
             pan,
         },
-        power_rules::Answer::Refused(why) => SentAnswer {
-            refusal: refusal::number(why),
+        Err(why) => SentAnswer {
+            refusal: why.number(),
             par: 0,
             pan: 0,
         },
     }
 }
 
-pub fn sent_outcome(h: Stepped) -> SentOutcome
-    ensures { result ≡ sent_beside h.power (told_answer h.answer) }
+pub fn sent_outcome(handed: Handed<PowerRecord, Sent>) -> SentOutcome
+    ensures { result ≡ sent_beside handed.state (power_told handed.answer) }
 {
-    let power = h.power;
-    let answer = h.answer;
     SentOutcome {
-        answer: sent_answer(answer),
-        power,
+        answer: sent_answer(handed.answer),
+        power: handed.state,
     }
 }

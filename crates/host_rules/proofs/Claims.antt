@@ -129,7 +129,7 @@ both_kept (value l) (alone n k) = numbered refl k
 both_kept (alone n k) t = numbered refl k
 
 -- ---- sweep and choice: a case by its number
-burst_told : (b : Burst) → Placeless (burst_of b)
+burst_told : (b : Burst Float) → Placeless (burst_of b)
 burst_told (Heard r) = both (converts level_low level_high r.level) (converts quality_low quality_high r.quality)
 burst_told Missed = value missed
 

@@ -1,5 +1,5 @@
 -- What is claimed of the answers beyond the contracts; proved in `proofs/Claims.antt` under the same name.
-use Rattle.std.specs.Prelude.{ℕ, ◌≡◌, List, ℤ}
+use Rattle.std.specs.Prelude.{ℕ, ◌≡◌, List, ℤ, Float}
 use Rattle.refusal.specs.Told.{Told, acceptance}
 use Rattle.readings_rules.specs.declared.Reading.{Reading}
 use Rattle.readings_rules.specs.declared.Burst.{Burst}
@@ -46,7 +46,7 @@ pub record Changing : Type 0 where
 pub record SweepFiling : Type 0 where
   pub sweep : Sweep
   pub channel : ℕ
-  pub burst : Burst
+  pub burst : Burst Float
 
 abbrev pub handed_sweep : SweepFiling → Sweep × Told Unit
 handed_sweep x = (leaves x.sweep (filing x.sweep x.channel x.burst), acceptance (filing x.sweep x.channel x.burst))
@@ -70,7 +70,7 @@ pub record NothingLost : Type 0 where
   pub quality_back : OneToOneOver quality_back hundredths_answer
   pub level_shown : OneToOneOver level_shown float_answer
   pub quality_shown : OneToOneOver quality_shown float_answer
-  pub burst : OneToOneOver (λ (r : Reading). burst_of (Heard r)) burst_answer
+  pub burst : OneToOneOver (λ (r : Reading Float). burst_of (Heard r)) burst_answer
   pub sweep : OneToOneOver handed_sweep (λ (h : Sweep × Told Unit). sweep_beside h.0 h.1)
   pub next : OneToOneOver next_told next_answer
   pub counts : OneToOneOver counts_told counts_answer

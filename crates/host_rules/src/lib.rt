@@ -1,7 +1,7 @@
-// The answers of the library as C and Rust hosts find them: structs of numbers, of which the first is the refusal number, 0 for accepted; then
-// come the values, 0 when refused. Where a refusal may tell a place, it stands beside the number. A call that changes a record hands it back
-// beside these. `specs/Answers.antt` has the rule. What makes them of the library's answers stands in the crate `host_answers`, the calls in
-// `royukezan`.
+// The answers of the library as C and Rust hosts find them: structs of numbers, since no enum crosses the C interface. The first is the refusal
+// number, 0 for accepted; then come the values, 0 when refused. Where a refusal may tell a place, it stands beside the number. A call that changes a
+// record hands it back beside these. `specs/Answers.antt` has the rule. What makes them of the library's answers stands in the crate
+// `host_answers`, the calls in `royukezan`.
 #![tactic(auto)]
 
 ghost use Rattle.host_rules.specs.Claims.{NothingLost};

@@ -1,2 +1,2 @@
--- The laws that the proofs of `quality_of` and `step` share.
-pub mod Qualities
+-- The laws that the proofs of a step share.
+pub mod Numbers

@@ -4,12 +4,12 @@
 #![tactic(auto)]
 
 ghost use Rattle.std.specs.Prelude.{◌≡◌};
-ghost use Rattle.refusal.specs.Told.{told_outcome};
+ghost use Rattle.refusal.specs.Told.{told};
 ghost use Rattle.power_rules.specs.PowerSteps.{parameters_in_range, codes_in_range, well_formed, fresh_with};
 ghost use Rattle.power_rules.specs.Calls.{started, tested};
 
-use power_rules::{Decoded, Handed, PowerParameters, PowerRecord};
-use refusal::{Outcome, Refusal};
+use power_rules::{Decoded, PowerParameters, PowerRecord};
+use refusal::{Handed, Refusal};
 
 // The ranges of the parameters begin at 0 and end here.
 const SQT_HIGHEST: u32 = 126;
@@ -35,25 +35,25 @@ pub const THOUSANDTHS_HIGHEST: u32 = 24_000;
 pub fn well_formed(r: PowerRecord) -> bool
     ensures { result ≡ well_formed r }
 {
-    (r.panlast <= NUMERIC_HIGHEST)
-        & (r.parsave <= NUMERIC_HIGHEST)
-        & (r.panbasic <= NUMERIC_HIGHEST)
-        & (r.increase <= THOUSANDTHS_HIGHEST)
-        & (r.increase % MESTEP_STEP == 0)
+    r.panlast <= NUMERIC_HIGHEST
+        && r.parsave <= NUMERIC_HIGHEST
+        && r.panbasic <= NUMERIC_HIGHEST
+        && r.increase <= THOUSANDTHS_HIGHEST
+        && r.increase % MESTEP_STEP == 0
 }
 
 // Each parameter in its range, and PANmin not above PANmax.
 pub fn parameters_in_range(p: PowerParameters) -> bool
     ensures { result ≡ parameters_in_range p }
 {
-    (p.sqt <= SQT_HIGHEST)
-        & (p.paninit <= NUMERIC_HIGHEST)
-        & (p.panmin <= NUMERIC_HIGHEST)
-        & (p.panmax <= NUMERIC_HIGHEST)
-        & (p.panmin <= p.panmax)
-        & (p.gainup <= GAINUP_HIGHEST)
-        & (p.gaindn <= GAINDN_HIGHEST)
-        & (p.mestep <= MESTEP_HIGHEST)
+    p.sqt <= SQT_HIGHEST
+        && p.paninit <= NUMERIC_HIGHEST
+        && p.panmin <= NUMERIC_HIGHEST
+        && p.panmax <= NUMERIC_HIGHEST
+        && p.panmin <= p.panmax
+        && p.gainup <= GAINUP_HIGHEST
+        && p.gaindn <= GAINDN_HIGHEST
+        && p.mestep <= MESTEP_HIGHEST
 }
 
 // A failed message has no codes; those of a decoded one are 0 to 63.
@@ -62,7 +62,7 @@ pub fn codes_in_range(d: Decoded) -> bool
 {
     match d {
         Decoded::Failed => true,
-        Decoded::Codes { pan, par } => (pan <= CODE_HIGHEST) & (par <= CODE_HIGHEST),
+        Decoded::Codes { pan, par } => pan <= CODE_HIGHEST && par <= CODE_HIGHEST,
     }
 }
 
@@ -78,35 +78,32 @@ fn fresh_with(paninit: u32) -> PowerRecord
 }
 
 // A fresh record; refused, one of all zeros.
-pub fn start(p: PowerParameters) -> Handed
-    ensures { (result.power ≡ (started p).power) × (told_outcome result.answer ≡ (started p).answer) }
+#[tactic(auto, unfolding(power_rules::specs::Calls::started))]
+pub fn start(p: PowerParameters) -> Handed<PowerRecord, ()>
+    ensures { (result.state ≡ (started p).power) × (told result.answer ≡ (started p).answer) }
 {
     if parameters_in_range(p) {
         Handed {
-            power: fresh_with(p.paninit),
-            answer: Outcome::Accepted,
+            state: fresh_with(p.paninit),
+            answer: Ok(()),
         }
     } else {
         Handed {
-            power: fresh_with(0),
-            answer: Outcome::Refused(Refusal::ParameterOutOfRange),
+            state: fresh_with(0),
+            answer: Err(Refusal::ParameterOutOfRange),
         }
     }
 }
 
 // Whether a record is well formed; it comes back as it was given.
-pub fn check(r: PowerRecord) -> Handed
-    ensures { (result.power ≡ (tested r).power) × (told_outcome result.answer ≡ (tested r).answer) }
+#[tactic(auto, unfolding(power_rules::specs::Calls::tested))]
+pub fn check(r: PowerRecord) -> Handed<PowerRecord, ()>
+    ensures { (result.state ≡ (tested r).power) × (told result.answer ≡ (tested r).answer) }
 {
-    if well_formed(r) {
-        Handed {
-            power: r,
-            answer: Outcome::Accepted,
-        }
+    let answer = if well_formed(r) {
+        Ok(())
     } else {
-        Handed {
-            power: r,
-            answer: Outcome::Refused(Refusal::RecordNotWellFormed),
-        }
-    }
+        Err(Refusal::RecordNotWellFormed)
+    };
+    Handed { state: r, answer }
 }

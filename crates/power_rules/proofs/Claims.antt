@@ -1,13 +1,13 @@
 -- The claims of `specs/Claims.antt`. A call's result is followed through its tests; the two codes go through the laws to natural numbers; an
 -- answer is told one-to-one, as there is a way back.
-use mathlib.Core.Path.{◌≡◌, refl, sym, ap}
+use mathlib.Core.Path.{◌≡◌, refl, sym}
 use Prim.Native.Nat.{ℕ, zero, suc, ◌*◌, ◌/◌, ◌≤◌}
 use native.Mathlib.Nat.{div-mul-le_self, lt-div-mul-add, div-lt_iff_lt-mul, le-div_iff_mul-le, suc-mul}
 use native.Mathlib.Omega.{arith}
 use lib.Dec.{le→leb, leb→le}
 use lib.IntN.{ℤ, pos, negsuc, neg_ℤ, nat_abs, ◌*ℤ◌}
 use lib.Signed.{◌≤ℤ◌}
-use Rattle.refusal.specs.Told.{Told, refused, gives}
+use Rattle.refusal.specs.Told.{refused, gives}
 use Rattle.refusal.proofs.OneToOne.{told_as_differs, gives_refused}
 use Rattle.power_rules.specs.declared.PowerParameters.{PowerParameters}
 use Rattle.power_rules.specs.declared.Sent.{Sent}

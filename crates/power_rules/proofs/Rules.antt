@@ -27,11 +27,6 @@ above (negsuc m) e =
     let h = leb-true m _ (both _ _ e).0 in
     record { n = zero_quality - suc m; is = rw (le-ltb zero_quality (suc m) (omega arith)); small = omega arith }
 
-pub above_small : (z : ℤ) → quality_in_range z ≡ true → above_lowest z ≤ quality_span
-above_small z e =
-    let a : Above z = above z e in
-    rw a.is a.small
-
 -- ---- rule 2
 module _ (p : PowerParameters) (u : ℕ) (fits : u ≤ numeric_highest) where
   abbrev target : ℕ

@@ -6,7 +6,7 @@ ghost use Rattle.power_rules.specs.Claims.{StartsWellFormed, StaysWellFormed, Re
 
 // The parameters, as codes.
 #[repr(C)]
-#[derive(Clone, Copy, PartialEq, Eq)]
+#[derive(Clone, Copy, PartialEq, Eq, Default)]
 pub struct PowerParameters {
     // The quality aimed at, by 0.1 dB.
     pub sqt: u32,
@@ -23,7 +23,7 @@ pub struct PowerParameters {
 
 // The power record: three codes, and the increase in thousandths of a dB.
 #[repr(C)]
-#[derive(Clone, Copy, PartialEq, Eq)]
+#[derive(Clone, Copy, PartialEq, Eq, Default)]
 pub struct PowerRecord {
     pub panlast: u32,
     pub parsave: u32,
@@ -31,7 +31,8 @@ pub struct PowerRecord {
     pub increase: u32,
 }
 
-// What decoding the other end's message gave.
+// What decoding the other end's message gave. An enum of its own and no `Option`: a message that failed is no missing one, and the rules of a
+// step name both cases.
 #[derive(Clone, Copy, PartialEq, Eq)]
 pub enum Decoded {
     Failed,

@@ -2,14 +2,17 @@
 #![tactic(auto)]
 
 ghost use Rattle.std.specs.Prelude.{◌≡◌, ◌*◌, ◌<◌, ◌^◌, T, nat_abs};
+ghost use Rattle.refusal.specs.declared.Refusal.{Refusal};
+ghost use Rattle.refusal.specs.Told.{told, gives, provided};
+ghost use Rattle.readings_rules.specs.Ranges.{in_range};
 ghost use Rattle.readings_rules.specs.Hundredths.{hundredths_of, converted, level_of, quality_of};
 ghost use Rattle.readings_rules.specs.Float.{shown, level_shown, quality_shown};
 ghost use Rattle.readings_rules.specs.Burst.{burst_of, InRange};
-ghost use Rattle.readings_rules.specs.Told.{told_hundredths, told_shown, told_burst};
+ghost use Rattle.readings_rules.specs.Told.{told_burst};
 ghost use Rattle.readings_rules.specs.Back.{level_back, quality_back};
 ghost use Rattle.readings_rules.specs.Code.{Near, in_units, small};
 
-pub use readings_rules::{Burst, BurstHundredths, Hundredths, Reading, ReadingHundredths, Shown};
+pub use readings_rules::{Burst, Reading};
 use readings_rules::{LEVEL_HIGH, LEVEL_LOW, QUALITY_HIGH, QUALITY_LOW};
 use refusal::Refusal;
 
@@ -54,96 +57,111 @@ fn nearest_hundredths(x: f32) -> i32
     }
 }
 
-// A float in hundredths, where it lies from low to high dB.
-fn convert_in(low: i32, high: i32, x: f32) -> Hundredths
-    requires { (nat_abs low < 656) × (nat_abs high < 656) }
-    ensures { told_hundredths result ≡ converted low high x }
-{
-    if low as f32 <= x {
-        if x <= high as f32 {
-            return Hundredths::Value(nearest_hundredths(x));
-        }
-    }
-    Hundredths::Refused(Refusal::ReadingOutOfRange)
+// The range of levels or of qualities, in whole dB. Its ends are so near to 0 that their hundredths are floats, and those of every float between
+// them fit 16 bits and a sign.
+#[derive(Clone, Copy)]
+struct Range {
+    low: i32,
+    high: i32,
+    ghost near: { (nat_abs low < 656) × (nat_abs high < 656) },
 }
 
-// Hundredths as a float, where they lie from low to high dB.
-fn show_in(low: i32, high: i32, h: i32) -> Shown
-    requires { (nat_abs low < 656) × (nat_abs high < 656) }
-    ensures { told_shown result ≡ shown low high h }
-{
-    if low * 100 <= h {
-        if h <= high * 100 {
-            return Shown::Value((h as f32) / 100.0);
+// The refusal of a reading outside its range.
+const OUTSIDE: Refusal = Refusal::ReadingOutOfRange;
+
+const LEVELS: Range = Range {
+    low: LEVEL_LOW,
+    high: LEVEL_HIGH,
+};
+
+const QUALITIES: Range = Range {
+    low: QUALITY_LOW,
+    high: QUALITY_HIGH,
+};
+
+impl Range {
+    // A float in hundredths, where it lies in the range.
+    fn to_hundredths(self, x: f32) -> Result<i32, Refusal>
+        ensures { told result ≡ converted self.low self.high x }
+    {
+        if self.low as f32 <= x && x <= self.high as f32 {
+            Ok(nearest_hundredths(x))
+        } else {
+            Err(OUTSIDE)
         }
     }
-    Shown::Refused(Refusal::ReadingOutOfRange)
+
+    // Hundredths as a float, where they lie in the range.
+    fn to_float(self, h: i32) -> Result<f32, Refusal>
+        ensures { told result ≡ shown self.low self.high h }
+    {
+        if self.low * 100 <= h && h <= self.high * 100 {
+            Ok((h as f32) / 100.0)
+        } else {
+            Err(OUTSIDE)
+        }
+    }
+
+    // Hundredths shown and read again: the same, where they lie in the range.
+    fn read_back(self, h: i32) -> Result<i32, Refusal>
+        ensures { told result ≡ provided (in_range self.low self.high h) Refusal.ReadingOutOfRange (gives h) }
+    {
+        self.to_hundredths(self.to_float(h)?)
+    }
 }
 
 // A level in hundredths.
-pub fn level_to_hundredths(x: f32) -> Hundredths
-    ensures { told_hundredths result ≡ level_of x }
+pub fn level_to_hundredths(x: f32) -> Result<i32, Refusal>
+    ensures { told result ≡ level_of x }
 {
-    convert_in(LEVEL_LOW, LEVEL_HIGH, x)
+    LEVELS.to_hundredths(x)
 }
 
 // A quality in hundredths.
-pub fn quality_to_hundredths(x: f32) -> Hundredths
-    ensures { told_hundredths result ≡ quality_of x }
+pub fn quality_to_hundredths(x: f32) -> Result<i32, Refusal>
+    ensures { told result ≡ quality_of x }
 {
-    convert_in(QUALITY_LOW, QUALITY_HIGH, x)
+    QUALITIES.to_hundredths(x)
 }
 
 // A level's hundredths as a float.
-pub fn level_to_float(h: i32) -> Shown
-    ensures { told_shown result ≡ level_shown h }
+pub fn level_to_float(h: i32) -> Result<f32, Refusal>
+    ensures { told result ≡ level_shown h }
 {
-    show_in(LEVEL_LOW, LEVEL_HIGH, h)
+    LEVELS.to_float(h)
 }
 
 // A quality's hundredths as a float.
-pub fn quality_to_float(h: i32) -> Shown
-    ensures { told_shown result ≡ quality_shown h }
+pub fn quality_to_float(h: i32) -> Result<f32, Refusal>
+    ensures { told result ≡ quality_shown h }
 {
-    show_in(QUALITY_LOW, QUALITY_HIGH, h)
+    QUALITIES.to_float(h)
 }
 
 // A level's hundredths, shown and read again: the same hundredths, for every level in its range.
-pub fn level_read_back(h: i32) -> Hundredths
-    ensures { told_hundredths result ≡ level_back h }
+pub fn level_read_back(h: i32) -> Result<i32, Refusal>
+    ensures { told result ≡ level_back h }
 {
-    match level_to_float(h) {
-        Shown::Value(x) => level_to_hundredths(x),
-        Shown::Refused(why) => Hundredths::Refused(why),
-    }
+    LEVELS.read_back(h)
 }
 
 // A quality's hundredths, shown and read again: the same hundredths, for every quality in its range.
-pub fn quality_read_back(h: i32) -> Hundredths
-    ensures { told_hundredths result ≡ quality_back h }
+pub fn quality_read_back(h: i32) -> Result<i32, Refusal>
+    ensures { told result ≡ quality_back h }
 {
-    match quality_to_float(h) {
-        Shown::Value(x) => quality_to_hundredths(x),
-        Shown::Refused(why) => Hundredths::Refused(why),
-    }
+    QUALITIES.read_back(h)
 }
 
 // A burst's result in hundredths: both floats of a heard one are tested.
-pub fn burst_to_hundredths(b: Burst) -> BurstHundredths
+pub fn burst_to_hundredths(b: Burst) -> Result<Burst<i32>, Refusal>
     ensures value { told_burst result ≡ burst_of b }
     ensures range { InRange (told_burst result) }
 {
     match b {
-        Burst::Heard(r) => match level_to_hundredths(r.level) {
-            Hundredths::Value(level) => match quality_to_hundredths(r.quality) {
-                Hundredths::Value(quality) => BurstHundredths::Heard(ReadingHundredths {
-                    level,
-                    quality,
-                }),
-                Hundredths::Refused(why) => BurstHundredths::Refused(why),
-            },
-            Hundredths::Refused(why) => BurstHundredths::Refused(why),
-        },
-        Burst::Missed => BurstHundredths::Missed,
+        Burst::Heard(r) => Ok(Burst::Heard(Reading {
+            level: level_to_hundredths(r.level)?,
+            quality: quality_to_hundredths(r.quality)?,
+        })),
+        Burst::Missed => Ok(Burst::Missed),
     }
 }

@@ -12,7 +12,7 @@ pub struct Reading<T = f32> {
     pub quality: T,
 }
 
-// The modem's result for one burst, in floats or in hundredths.
+// The modem's result for one burst, in floats or in hundredths. An enum of its own and no `Option`: the paper names both of its cases.
 #[derive(Clone, Copy)]
 pub enum Burst<T = f32> {
     Heard(Reading<T>),

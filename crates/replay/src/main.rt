@@ -4,6 +4,7 @@
 
 use session::Session;
 use std::env::{Env, FillError};
+use std::fmt;
 use std::fs::{self, Files};
 use std::io::{Error, ErrorKind, Read};
 use std::process::ExitCode;
@@ -25,15 +26,15 @@ struct Failure<'a> {
     why: Error,
 }
 
-fn failed(what: &str, why: Error) -> Failure<'_> {
-    Failure { what, why }
+impl fmt::Display for Failure<'_> {
+    fn fmt<W: fmt::Write>(&self, f: &mut fmt::Formatter<W>) -> fmt::Result {
+        write!(f, "{}: {}", self.what, self.why)
+    }
 }
 
 fn write_answers<'a>(rt: &impl Print, answers: &[u8]) -> Result<(), Failure<'a>> {
-    match rt.write_all(answers) {
-        Ok(()) => Ok(()),
-        Err(why) => Err(failed(STANDARD_OUTPUT, why)),
-    }
+    rt.write_all(answers)
+        .map_err(|why| Failure { what: STANDARD_OUTPUT, why })
 }
 
 // Answers a block; the buffer of answers is written out each time that it is full.
@@ -44,13 +45,12 @@ fn replay_block<'a>(
 ) -> Result<Session, Failure<'a>> {
     let mut out = io::large_buffer();
     let mut s = session;
-    let mut at = 0;
-    while at < block.len() {
-        let progress = session::answer_block(s, &block[at..], &mut out);
+    let mut rest = block;
+    while !rest.is_empty() {
+        let progress = session::answer_block(s, rest, &mut out);
+        write_answers(rt, &out[..progress.written])?;
         s = progress.session;
-        let n = progress.written;
-        write_answers(rt, &out[..n])?;
-        at += progress.taken;
+        rest = &rest[progress.taken..];
     }
     Ok(s)
 }
@@ -67,14 +67,13 @@ fn replay_last<'a>(rt: &impl Print, session: Session) -> Result<(), Failure<'a>>
 fn replay_some<'a, R: Read>(
     rt: &impl Print,
     from: &mut R,
-    name: &'a str,
+    what: &'a str,
     session: Session,
 ) -> Result<Option<Session>, Failure<'a>> {
     let mut block = io::large_buffer();
-    let n = match from.read(&mut block) {
-        Ok(n) => n,
-        Err(why) => return Err(failed(name, why)),
-    };
+    let n = from
+        .read(&mut block)
+        .map_err(|why| Failure { what, why })?;
     if n == 0 {
         replay_last(rt, session)?;
         return Ok(None);
@@ -87,26 +86,25 @@ fn replay_some<'a, R: Read>(
 fn replay<'a, R: Read + Drop>(
     rt: &impl Print,
     mut from: R,
-    name: &'a str,
+    what: &'a str,
 ) -> Result<(), Failure<'a>> {
     let mut s = session::begin();
     for _ in 0..u64::MAX {
-        match replay_some(rt, &mut from, name, s)? {
-            Some(next) => s = next,
-            None => break,
-        }
+        let Some(next) = replay_some(rt, &mut from, what, s)? else {
+            break;
+        };
+        s = next;
     }
     Ok(())
 }
 
 fn replay_named<'a>(rt: &(impl Print + Files), name: &'a [u8]) -> Result<(), Failure<'a>> {
     let Ok(path) = str::from_utf8(name) else {
-        return Err(failed(NAME, Error::new(ErrorKind::InvalidInput, "not valid UTF-8")));
+        let why = Error::new(ErrorKind::InvalidInput, "not valid UTF-8");
+        return Err(Failure { what: NAME, why });
     };
-    match fs::open(rt, path) {
-        Ok(file) => replay(rt, file, path),
-        Err(why) => Err(failed(path, why)),
-    }
+    let file = fs::open(rt, path).map_err(|why| Failure { what: path, why })?;
+    replay(rt, file, path)
 }
 
 fn main(rt: HostRuntime) -> ExitCode {
@@ -114,12 +112,15 @@ fn main(rt: HostRuntime) -> ExitCode {
     let ended = match rt.arg(1, &mut name) {
         Ok(n) => replay_named(&rt, &name[..n]),
         Err(FillError::NotPresent) => replay(&rt, rt.stdin(), STANDARD_INPUT),
-        Err(FillError::TooLong) => Err(failed(NAME, Error::from_raw_os_error(NAME_TOO_LONG))),
+        Err(FillError::TooLong) => Err(Failure {
+            what: NAME,
+            why: Error::from_raw_os_error(NAME_TOO_LONG),
+        }),
     };
     match ended {
         Ok(()) => ExitCode::SUCCESS,
-        Err(e) => {
-            let _ = eprintln!(rt; "{}: {}", e.what, e.why);
+        Err(failure) => {
+            let _ = eprintln!(rt; "{failure}");
             ExitCode::FAILURE
         }
     }

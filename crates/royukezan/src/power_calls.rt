@@ -5,7 +5,9 @@ ghost use Rattle.power_rules.specs.declared.Decoded.TheVariants.{Failed, Codes};
 ghost use Rattle.power_rules.specs.Calls.{started, tested, stepped};
 ghost use Rattle.host_rules.specs.Answers.{refusal_number, power_outcome, sent_answer, sent_outcome};
 
-use host_answers::{PowerOutcome, SentAnswer, SentOutcome, power_outcome, sent_outcome};
+use host_answers::{
+    PowerOutcome, SentAnswer, SentOutcome, power_outcome, sent_answer, sent_outcome,
+};
 use power::{Decoded, PowerParameters, PowerRecord};
 
 // A fresh record; refused, one of all zeros. Refusal 7.
@@ -21,8 +23,7 @@ pub extern "C" fn royukezan_power_start_by_value(p: PowerParameters) -> PowerOut
 pub extern "C" fn royukezan_power_check_by_value(r: PowerRecord) -> u32
     ensures { result ≡ refusal_number (tested r).answer }
 {
-    let h = power_outcome(power::check(r));
-    h.refusal
+    power_outcome(power::check(r)).refusal
 }
 
 // A step with the decoded codes. Refusals 9, 7, 1.
@@ -62,9 +63,7 @@ pub extern "C" fn royukezan_power_step_decoded(
 ) -> SentAnswer
     ensures { (result ≡ sent_answer (stepped p r.old (Codes pan par) sqi).answer) × (r.new ≡ (stepped p r.old (Codes pan par) sqi).power) }
 {
-    let decoded = royukezan_power_step_decoded_by_value(*r, p, pan, par, sqi);
-    *r = decoded.power;
-    decoded.answer
+    sent_answer(power::advance(r, p, Decoded::Codes { pan, par }, sqi))
 }
 
 #[unsafe(no_mangle)]
@@ -75,7 +74,5 @@ pub extern "C" fn royukezan_power_step_failed(
 ) -> SentAnswer
     ensures { (result ≡ sent_answer (stepped p r.old Failed sqi).answer) × (r.new ≡ (stepped p r.old Failed sqi).power) }
 {
-    let failed = royukezan_power_step_failed_by_value(*r, p, sqi);
-    *r = failed.power;
-    failed.answer
+    sent_answer(power::advance(r, p, Decoded::Failed, sqi))
 }

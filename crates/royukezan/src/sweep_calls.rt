@@ -65,8 +65,7 @@ pub extern "C" fn royukezan_sweep_counts_by_value(s: Sweep) -> CountsAnswer
 pub extern "C" fn royukezan_sweep_check_by_value(s: Sweep) -> u32
     ensures { result ≡ refusal_number (checking s) }
 {
-    let h = sweep_outcome(sweep::check(s));
-    h.refusal
+    sweep_outcome(sweep::check(s)).refusal
 }
 
 // The choice of a beam. Refusals 9, 8, 7, 4.

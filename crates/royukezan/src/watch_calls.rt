@@ -85,6 +85,5 @@ pub extern "C" fn royukezan_watch_verdict_by_value(w: Watch, hysteresis: i32) ->
 pub extern "C" fn royukezan_watch_check_by_value(w: Watch) -> u32
     ensures { result ≡ refusal_number (tested w).answer }
 {
-    let h = watch_outcome(watch::check(w));
-    h.refusal
+    watch_outcome(watch::check(w)).refusal
 }

@@ -3,23 +3,23 @@
 
 ghost use Rattle.std.specs.Prelude.{◌≡◌, ◌<◌};
 ghost use Rattle.refusal.specs.Number.{reason_of};
-ghost use Rattle.refusal.specs.Told.{told_outcome};
-ghost use Rattle.readings_rules.specs.Told.{told_hundredths, told_shown};
+ghost use Rattle.refusal.specs.Told.{told};
 ghost use Rattle.sweep_rules.specs.Told.{told_next, told_numbers};
 ghost use Rattle.choice_rules.specs.Told.{told_choice};
-ghost use Rattle.watch_rules.specs.Told.{told};
-ghost use Rattle.power_rules.specs.Told.{told_answer};
+ghost use Rattle.watch_rules.specs.Told.{told_answer as watch_told};
+ghost use Rattle.power_rules.specs.Told.{told_answer as power_told};
 ghost use Rattle.session_texts.specs.Text.{room, said};
 ghost use Rattle.session_templates.specs.Filled.{line, filled, widest};
 ghost use Rattle.session_answers.specs.Lines.{accepted_text, refused_text, float_text};
 ghost use Rattle.session_answers.specs.Lines.{outcome_line, hundredths_line, float_line, next_line, counts_line, choice_line, watch_line, power_line, error_line};
 
 use choice_rules::Choice;
-use readings_rules::{Hundredths, Shown};
-use refusal::{Outcome, Reason, Refusal};
+use power_rules::Sent;
+use refusal::{Reason, Refusal};
 use session_templates::ended;
 use session_texts::{Text, nothing, with, with_bits};
-use sweep_rules::{NextChannel, Numbers};
+use sweep_rules::Numbers;
+use watch_rules::Answer;
 
 // The whole line of a template. It finds room whatever the numbers are: none has more than 20 digits.
 fn whole_line(template: &[u8], a: u64, b: u64, z: i32) -> Text
@@ -38,12 +38,12 @@ fn accepted() -> Text
 fn refused(why: Refusal) -> Text
     ensures { said result ≡ line (refused_text (reason_of why)) }
 {
-    match refusal::told(why) {
-        Reason::Alone(number) => whole_line(b"refused A", number as u64, 0, 0),
+    match why.told() {
+        Reason::Alone(number) => whole_line(b"refused A", u64::from(number), 0, 0),
         Reason::At { number, place } => whole_line(
             b"refused A at B",
-            number as u64,
-            place as u64,
+            u64::from(number),
+            u64::from(place),
             0,
         ),
     }
@@ -57,121 +57,116 @@ fn float(x: f32) -> Text
 
 // The answer of a call that gives no value.
 #[tactic(auto, unfolding(crate::specs::Lines::outcome_line))]
-pub fn of_outcome(answer: Outcome) -> Text
-    ensures { said result ≡ outcome_line (told_outcome answer) }
+pub fn of_outcome(answer: Result<(), Refusal>) -> Text
+    ensures { said result ≡ outcome_line (told answer) }
 {
     match answer {
-        Outcome::Accepted => accepted(),
-        Outcome::Refused(why) => refused(why),
+        Ok(()) => accepted(),
+        Err(why) => refused(why),
     }
 }
 
 // A level or a quality in hundredths.
 #[tactic(auto, unfolding(crate::specs::Lines::hundredths_line))]
-pub fn of_hundredths(answer: Hundredths) -> Text
-    ensures { said result ≡ hundredths_line (told_hundredths answer) }
+pub fn of_hundredths(answer: Result<i32, Refusal>) -> Text
+    ensures { said result ≡ hundredths_line (told answer) }
 {
     match answer {
-        Hundredths::Value(h) => whole_line(b"hundredths Z", 0, 0, h),
-        Hundredths::Refused(why) => refused(why),
+        Ok(hundredths) => whole_line(b"hundredths Z", 0, 0, hundredths),
+        Err(why) => refused(why),
     }
 }
 
 // Hundredths shown as a float.
 #[tactic(auto, unfolding(crate::specs::Lines::float_line))]
-pub fn of_float(answer: Shown) -> Text
-    ensures { said result ≡ float_line (told_shown answer) }
+pub fn of_float(answer: Result<f32, Refusal>) -> Text
+    ensures { said result ≡ float_line (told answer) }
 {
     match answer {
-        Shown::Value(x) => float(x),
-        Shown::Refused(why) => refused(why),
+        Ok(x) => float(x),
+        Err(why) => refused(why),
     }
 }
 
 // The next channel of a sweep.
 #[tactic(auto, unfolding(crate::specs::Lines::next_line))]
-pub fn of_next(answer: NextChannel) -> Text
+pub fn of_next(answer: Result<Option<u16>, Refusal>) -> Text
     ensures { said result ≡ next_line (told_next answer) }
 {
     match answer {
-        NextChannel::Channel(c) => whole_line(b"next A", c as u64, 0, 0),
-        NextChannel::Done => whole_line(b"done", 0, 0, 0),
-        NextChannel::Refused(why) => refused(why),
+        Ok(Some(channel)) => whole_line(b"next A", u64::from(channel), 0, 0),
+        Ok(None) => whole_line(b"done", 0, 0, 0),
+        Err(why) => refused(why),
     }
 }
 
 // The numbers of channels visited and heard.
 #[tactic(auto, unfolding(crate::specs::Lines::counts_line))]
-pub fn of_counts(answer: Numbers) -> Text
+pub fn of_counts(answer: Result<Numbers, Refusal>) -> Text
     ensures { said result ≡ counts_line (told_numbers answer) }
 {
     match answer {
-        Numbers::Of { visited, heard } => whole_line(
+        Ok(Numbers { visited, heard }) => whole_line(
             b"visited A heard B",
-            visited as u64,
-            heard as u64,
+            u64::from(visited),
+            u64::from(heard),
             0,
         ),
-        Numbers::Refused(why) => refused(why),
+        Err(why) => refused(why),
     }
 }
 
 // What is chosen over a sweep.
 #[tactic(auto, unfolding(crate::specs::Lines::choice_line))]
-pub fn of_choice(answer: Choice) -> Text
+pub fn of_choice(answer: Result<Choice, Refusal>) -> Text
     ensures { said result ≡ choice_line (told_choice answer) }
 {
     match answer {
-        Choice::Camp { channel, tried } => whole_line(
+        Ok(Choice::Camp { channel, tried }) => whole_line(
             b"camp A tried B",
-            channel as u64,
-            tried as u64,
+            u64::from(channel),
+            u64::from(tried),
             0,
         ),
-        Choice::Read { channel, tried } => whole_line(
+        Ok(Choice::Read { channel, tried }) => whole_line(
             b"read A tried B",
-            channel as u64,
-            tried as u64,
+            u64::from(channel),
+            u64::from(tried),
             0,
         ),
-        Choice::NoBeam { tried } => whole_line(b"no beam tried A", tried as u64, 0, 0),
-        Choice::Refused(why) => refused(why),
+        Ok(Choice::NoBeam { tried }) => whole_line(b"no beam tried A", u64::from(tried), 0, 0),
+        Err(why) => refused(why),
     }
 }
 
 // The answer of a call on a watch.
 #[tactic(auto, unfolding(crate::specs::Lines::watch_line))]
-pub fn of_watch(answer: watch_rules::Answer) -> Text
-    ensures { said result ≡ watch_line (told answer) }
+pub fn of_watch(answer: Result<Answer, Refusal>) -> Text
+    ensures { said result ≡ watch_line (watch_told answer) }
 {
     match answer {
-        watch_rules::Answer::Accepted => accepted(),
-        watch_rules::Answer::Refused(why) => refused(why),
-        watch_rules::Answer::Levels { count, mean } => whole_line(
+        Ok(Answer::Accepted) => accepted(),
+        Ok(Answer::Levels { count, mean }) => whole_line(
             b"count A mean Z",
-            count as u64,
+            u64::from(count),
             0,
             mean,
         ),
-        watch_rules::Answer::Wait => whole_line(b"wait", 0, 0, 0),
-        watch_rules::Answer::Stay => whole_line(b"stay", 0, 0, 0),
-        watch_rules::Answer::MoveTo(c) => whole_line(b"move A", c as u64, 0, 0),
+        Ok(Answer::Wait) => whole_line(b"wait", 0, 0, 0),
+        Ok(Answer::Stay) => whole_line(b"stay", 0, 0, 0),
+        Ok(Answer::MoveTo(channel)) => whole_line(b"move A", u64::from(channel), 0, 0),
+        Err(why) => refused(why),
     }
 }
 
 // The codes to send after a power step.
 #[tactic(auto, unfolding(crate::specs::Lines::power_line))]
-pub fn of_power(answer: power_rules::Answer) -> Text
-    ensures { said result ≡ power_line (told_answer answer) }
+pub fn of_power(answer: Result<Sent, Refusal>) -> Text
+    ensures { said result ≡ power_line (power_told answer) }
 {
     match answer {
-        power_rules::Answer::Send { par, pan } => whole_line(
-            b"par A pan B",
-            par as u64,
-            pan as u64,
-            0,
-        ),
-        power_rules::Answer::Refused(why) => refused(why),
+        Ok(Sent { par, pan }) => whole_line(b"par A pan B", u64::from(par), u64::from(pan), 0),
+        Err(why) => refused(why),
     }
 }
 

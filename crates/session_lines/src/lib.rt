@@ -29,12 +29,11 @@ impl Line {
         }
     }
 
-    // The line with more bytes.
-    pub fn with_more(mut self, more: &[u8]) -> Line
-        ensures { kept result ≡ with_more (kept self) more.now }
+    // Adds the bytes that come next.
+    pub fn push(&mut self, more: &[u8])
+        ensures { kept self.new ≡ with_more (kept self.old) more.now }
     {
         push_fitting(&mut self.bytes, more);
-        self
     }
 
     // Its length; one above the longest stands for all greater ones.

@@ -1,9 +1,8 @@
 -- The text of an answer by its template, and its line: `A` and `B` stand for its numbers, and `Z` for one that may be below 0. A number that has no
 -- letter there is not written.
-use Rattle.std.specs.Prelude.{ℕ, ◌+◌, ◌≤◌, ◌<◌, ◌≡◌, Bool, true, cond, ◌||◌, List, [], ◌∷◌, ◌++◌, length, get_or, drop, eqb, ℤ, pos}
+use Rattle.std.specs.Prelude.{ℕ, ◌+◌, Bool, cond, ◌||◌, List, [], ◌∷◌, ◌++◌, eqb, ℤ, pos}
 use Prim.Native.String.{String}
 use Rattle.session_words.specs.Bytes.{bytes_of, newline}
-use Rattle.session_words.specs.Words.{between}
 use Rattle.session_texts.specs.Text.{decimal_text, signed_text}
 
 -- the letters `A`, `B` and `Z`
@@ -31,17 +30,6 @@ piece a b z x =
 abbrev pub filled : List ℕ → ℕ → ℕ → ℤ → List ℕ
 filled [] a b z = []
 filled (x ∷ t) a b z = piece a b z x ++ filled t a b z
-
--- the bytes of a template from one place up to another stand for themselves
-abbrev pub Plain : List ℕ → ℕ → ℕ → Type 0
-Plain t from to = (a b : ℕ) (z : ℤ) → filled (drop from t) a b z ≡ between t from to ++ filled (drop to t) a b z
-
--- and there a number stands, or the template ends
-pub record Run (t : List ℕ) (from to : ℕ) : Type 0 where
-  pub begins : from ≤ to
-  pub within : to ≤ length t
-  pub plain : Plain t from to
-  pub ends : to < length t → stands_for (get_or t to 0) ≡ true
 
 -- the most bytes of such a text: a number has at most 20 digits, and may have a sign
 abbrev pub wide : ℕ → ℕ

@@ -1,11 +1,11 @@
 // A line of a session file's answers by its template: fixed words, letters where numbers go, and a newline at the end.
 #![tactic(auto)]
 
-ghost use Rattle.std.specs.Prelude.{◌≡◌, ◌++◌, true, ◌≤◌, length, take};
+ghost use Rattle.std.specs.Prelude.{◌≡◌, ◌++◌, take};
 ghost use Rattle.session_texts.specs.Text.{room, said};
-ghost use Rattle.session_templates.specs.Filled.{line, stands_for, piece, filled, Run};
+ghost use Rattle.session_templates.specs.Filled.{line, piece, filled};
 
-use session_texts::{Text, nothing, with, with_decimal, with_signed};
+use session_texts::Text;
 
 // The letters of a template: two numbers, and one with a sign.
 const FIRST: u8 = b'A';
@@ -14,62 +14,41 @@ const SECOND: u8 = b'B';
 
 const SIGNED: u8 = b'Z';
 
-// The text with a newline after it, as far as there is room.
-pub fn ended(text: Text) -> Text
-    ensures { said result ≡ take room (line (said text)) }
-{
-    with(text, b"\n")
+// The numbers that the letters stand for.
+#[derive(Clone, Copy)]
+pub struct Numbers {
+    pub first: u64,
+    pub second: u64,
+    pub signed: i32,
 }
 
-// Whether a byte of a template stands for a number.
-fn is_number(letter: u8) -> bool
-    ensures { result ≡ stands_for letter }
+// Adds a newline, if there is room.
+pub fn end_line(text: &mut Text)
+    ensures { said text.new ≡ take room (line (said text.old)) }
 {
-    (letter == FIRST) | (letter == SECOND) | (letter == SIGNED)
+    text.push_byte(b'\n');
 }
 
-// Where the bytes of a template from a place on that stand for themselves end.
-fn run_end(template: &[u8], from: usize) -> usize
-    requires { from ≤ length template.now }
-    ensures { Run template.now from result }
+// Adds what a byte of a template stands for: a letter for its number, any other byte for itself.
+fn push_piece(text: &mut Text, letter: u8, numbers: Numbers)
+    ensures { said text.new ≡ take room (said text.old ++ piece numbers.first numbers.second numbers.signed letter) }
 {
-    let mut i = from;
-    while i < template.len() {
-        if is_number(template[i]) {
-            return i;
-        }
-        i += 1;
+    match letter {
+        FIRST => text.push_decimal(numbers.first),
+        SECOND => text.push_decimal(numbers.second),
+        SIGNED => text.push_signed(numbers.signed),
+        byte => text.push_byte(byte),
     }
-    i
 }
 
-// The text with the number after it that a letter of a template stands for.
-fn with_number(text: Text, letter: u8, a: u64, b: u64, z: i32) -> Text
-    requires { stands_for letter ≡ true }
-    ensures { said result ≡ take room (said text ++ piece a b z letter) }
+// The line of a template, as far as there is room.
+pub fn filled(template: &[u8], numbers: Numbers) -> Text
+    ensures { said result ≡ take room (line (filled template.now numbers.first numbers.second numbers.signed)) }
 {
-    if letter == FIRST {
-        return with_decimal(text, a);
+    let mut text = Text::new();
+    for letter in template {
+        push_piece(&mut text, *letter, numbers);
     }
-    if letter == SECOND {
-        return with_decimal(text, b);
-    }
-    with_signed(text, z)
-}
-
-// The line of a template, as far as there is room: `A` and `B` stand for the numbers, and `Z` for the one with a sign.
-pub fn filled(template: &[u8], a: u64, b: u64, z: i32) -> Text
-    ensures { said result ≡ take room (line (filled template.now a b z)) }
-{
-    let mut text = nothing();
-    let mut at = 0;
-    loop {
-        let end = run_end(template, at);
-        text = with(text, &template[at..end]);
-        if end == template.len() {
-            return ended(text);
-        }
-        text = with_number(text, template[end], a, b, z);
-        at = end + 1;
-    }
+    end_line(&mut text);
+    text
 }

@@ -1,7 +1,7 @@
 // An answer as text: words, whole numbers and a float's bits, one after the other.
 #![tactic(auto)]
 
-ghost use Rattle.std.specs.Prelude.{◌≡◌, [], ◌++◌, ◌+◌, take};
+ghost use Rattle.std.specs.Prelude.{◌≡◌, [], ◌∷◌, ◌++◌, ◌+◌, ◌≤◌, length, take};
 ghost use Rattle.std.proofs.Math.Seq.{paste};
 ghost use Rattle.std.specs.Float.{binary32};
 ghost use Rattle.std.specs.Float.Ieee.{to_bits};
@@ -34,54 +34,63 @@ impl Text {
 
     // What it says.
     pub fn as_bytes(&self) -> &[u8]
-        ensures { result.now ≡ said self.now }
+        ensures says { result.now ≡ said self.now }
+        ensures fits { length result.now ≤ room }
     {
         self.bytes.as_slice()
     }
 
-    // The text with more bytes after it, as far as there is room.
-    pub fn with(mut self, more: &[u8]) -> Text
-        ensures { said result ≡ take room (said self ++ more.now) }
+    // Adds a byte, if there is room.
+    pub fn push_byte(&mut self, byte: u8)
+        ensures { said self.new ≡ take room (said self.old ++ byte ∷ []) }
     {
-        push_fitting(&mut self.bytes, more);
-        self
-    }
-
-    // The text with a number in decimal after it.
-    pub fn with_decimal(self, n: u64) -> Text
-        ensures { said result ≡ take room (said self ++ decimal_text n) }
-    {
-        let mut digits = [0u8; 20];
-        let k = io::decimal(n, &mut digits);
-        self.with(&digits[..k])
-    }
-
-    // The same with a minus sign, where it is below 0.
-    pub fn with_signed(self, n: i32) -> Text
-        ensures { said result ≡ take room (said self ++ signed_text n) }
-    {
-        let size = u64::from(n.unsigned_abs());
-        if n < 0 {
-            self.with(b"-").with_decimal(size)
-        } else {
-            self.with_decimal(size)
+        if !self.bytes.is_full() {
+            self.bytes.push(byte);
         }
     }
 
-    // The text with a float's bits after it, as 8 hex digits.
-    pub fn with_bits(self, x: f32) -> Text
-        ensures { said result ≡ take room (said self ++ bits_text x) }
+    // Adds bytes, as far as there is room.
+    pub fn push(&mut self, more: &[u8])
+        ensures { said self.new ≡ take room (said self.old ++ more.now) }
+    {
+        push_fitting(&mut self.bytes, more);
+    }
+
+    // Adds a number in decimal.
+    pub fn push_decimal(&mut self, n: u64)
+        ensures { said self.new ≡ take room (said self.old ++ decimal_text n) }
+    {
+        let mut digits = [0u8; 20];
+        let k = io::decimal(n, &mut digits);
+        self.push(&digits[..k]);
+    }
+
+    // The same with a minus sign before it, where it is below 0.
+    pub fn push_signed(&mut self, n: i32)
+        ensures { said self.new ≡ take room (said self.old ++ signed_text n) }
+    {
+        let below = n < 0;
+        if below {
+            self.push_byte(b'-');
+        }
+        self.push_decimal(u64::from(n.unsigned_abs()));
+    }
+
+    // Adds a float's bits, as 8 hex digits.
+    pub fn push_bits(&mut self, x: f32)
+        ensures { said self.new ≡ take room (said self.old ++ bits_text x) }
     {
         let mut digits = [0u8; 16];
         let bits = bits_of(x);
         let k = io::hex(u64::from(bits), 8, &mut digits);
-        self.with(&digits[..k])
+        self.push(&digits[..k]);
     }
 
     // Puts the text into a buffer at a place, as far as there is room, and answers the place after it.
     pub fn put(&self, out: &mut [u8], at: usize) -> usize
         ensures place { result ≡ at + fitting (said self.now) out.old at }
         ensures bytes { out.new ≡ paste out.old at (said self.now) (fitting (said self.now) out.old at) }
+        ensures fits { length (said self.now) ≤ room }
     {
         copy_to(out, at, self.as_bytes())
     }

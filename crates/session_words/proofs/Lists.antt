@@ -1,14 +1,13 @@
 -- Laws of lists: going along one by its index, parts of one, and what finds room.
 use Prim.Native.Nat.{ℕ, zero, suc, ◌+◌, ◌-◌, ◌≤◌, ◌<◌, min}
-use mathlib.Core.Path.{◌≡◌, refl, ap, ◌∙◌}
+use mathlib.Core.Path.{◌≡◌, refl, ap}
 use mathlib.Core.Bool.{Bool, true, false, cond}
 use mathlib.Core.List.{List, [], ◌∷◌, ◌++◌}
 use native.Mathlib.Numerals.{add-one}
 use native.Mathlib.Nat.{min-zero, zero-min, suc-min-suc}
 use native.Mathlib.Omega.{arith}
 use lib.ListN.{length, get_or, take, drop, length-drop, drop_of_length-le}
-use lib.Seq.{drop-cons, take-suc, take_all, get_or-drop}
-use Rattle.session_words.specs.Words.{between}
+use lib.Seq.{drop-cons, take_all}
 
 pub cond-true : {A : Type 0} {b : Bool} (x y : A) → b ≡ true → cond b x y ≡ x
 cond-true x y e = ap (λ t. cond t x y) e
@@ -43,13 +42,3 @@ module _ {A : Type 0} where
   -- the rest of a list from an index on, as a part that goes to the end
   pub rest-is : (s : List A) (a : ℕ) → take (length s - a) (drop a s) ≡ drop a s
   rest-is s a = take_all (length s - a) (drop a s) (rw length-drop (omega arith))
-
--- a part of a line with one byte more
-pub between_more : (s : List ℕ) (a i : ℕ) → a ≤ i → i < length s → between s a (i + 1) ≡ between s a i ++ (get_or s i 0 ∷ [])
-between_more s a i h k =
-    let e : i + 1 - a ≡ suc (i - a) = omega arith in
-    let l : i - a < length (drop a s) = rw length-drop (omega arith) in
-    let f : a + (i - a) ≡ i = omega arith in
-    ap (λ n. take n (drop a s)) e
-    ∙ take-suc (drop a s) (i - a) 0 l
-    ∙ ap (λ x. between s a i ++ (x ∷ [])) (get_or-drop a s (i - a) 0 ∙ ap (λ n. get_or s n 0) f)

@@ -1,27 +1,22 @@
 // The calls of the band sweep: filing, the next channel, the counts and the test of a record. Document 01, section The band sweep.
 #![tactic(auto)]
 
-ghost use Rattle.std.specs.Prelude.{◌≡◌, true, false, ◌+◌, ◌≤◌, ◌<◌};
-ghost use Rattle.refusal.specs.Told.{gives, told_outcome, accepted, acceptance, refused_for};
+ghost use Rattle.std.specs.Prelude.{◌≡◌, true, ◌<◌, length};
+ghost use Rattle.refusal.specs.Told.{told, acceptance};
 ghost use Rattle.sweep_rules.specs.Map.{channels, word_bits, is_set, with_bit, set_bits};
-ghost use Rattle.sweep_rules.specs.Record.{first_swept, swept_channels, swept, visited, heard, fresh_sweep, well_formed};
+ghost use Rattle.sweep_rules.specs.Record.{first_swept, swept_channels, swept, fresh_sweep, well_formed};
 ghost use Rattle.sweep_rules.specs.Filing.{with_missed, with_heard, filing, leaves, checking};
 ghost use Rattle.sweep_rules.specs.Next.{lowest_not, next_told};
 ghost use Rattle.sweep_rules.specs.Counts.{counts_told};
-ghost use Rattle.sweep_rules.specs.Told.{told_next, told_numbers};
+ghost use Rattle.sweep_rules.specs.Told.{next_of_answer, told_next, told_numbers};
 ghost use Rattle.sweep_rules.specs.Code.{half_bits, levels_fine, word_fine, ends_clear};
 
-use readings::{Burst, BurstHundredths};
+use readings::Burst;
 use readings_rules::{LEVEL_HIGHEST, LEVEL_LOWEST};
-use refusal::{Outcome, Refusal};
-pub use sweep_rules::{
-    CHANNELS, FIRST_SWEPT, LAST_SWEPT, NextChannel, Numbers, Sweep, SweepNext, SweepNumbers,
-    SweepOutcome,
-};
+use refusal::{Handed, Refusal};
+pub use sweep_rules::{CHANNELS, FIRST_SWEPT, LAST_SWEPT, Numbers, Sweep, WORDS};
 
-// The words of a map, and the bits of a word: as many bits as there are channel numbers.
-const WORDS: usize = 17;
-
+// The bits of a word of a map.
 const WORD_BITS: usize = 64;
 
 // Half a word: its bits, and the weight of the upper half.
@@ -34,9 +29,9 @@ pub fn fresh() -> Sweep
     ensures { result ≡ fresh_sweep }
 {
     Sweep {
-        levels: [0; 1088],
-        visited: [0; 17],
-        heard: [0; 17],
+        levels: [0; CHANNELS],
+        visited: [0; WORDS],
+        heard: [0; WORDS],
     }
 }
 
@@ -44,79 +39,66 @@ pub fn fresh() -> Sweep
 fn is_swept(c: usize) -> bool
     ensures { result ≡ swept c }
 {
-    (FIRST_SWEPT <= c) & (c <= LAST_SWEPT)
+    (FIRST_SWEPT..=LAST_SWEPT).contains(&c)
 }
 
-// Whether the bit of a channel is set.
-fn is_set(map: &[u64; 17], c: usize) -> bool
-    requires { c < channels }
+// Whether the bit of a channel is set; beyond the map none is.
+pub fn is_set(map: &[u64], c: usize) -> bool
     ensures { result ≡ is_set map.now c }
 {
-    let w = map[c / WORD_BITS];
-    (w >> (c % WORD_BITS)) % 2 == 1
+    let word = map.get(c / WORD_BITS).copied().unwrap_or(0);
+    (word >> (c % WORD_BITS)) % 2 == 1
 }
 
-// The map with the clear bit of a channel set.
-fn set_bit(map: [u64; 17], c: usize) -> [u64; 17]
-    requires { (c < channels) × (is_set map c ≡ false) }
-    ensures { result ≡ with_bit map c }
+// Sets the bit of a channel.
+fn set_bit(map: &mut [u64; WORDS], c: usize)
+    requires { c < channels }
+    ensures { map.new ≡ with_bit map.old c }
 {
-    let mut m = map;
-    let i = c / WORD_BITS;
-    let w = m[i];
-    m[i] = w + (1u64 << (c % WORD_BITS));
-    m
+    map[c / WORD_BITS] |= 1 << (c % WORD_BITS);
 }
 
-// Whether the 32 levels from `at` on are in range, and 0 where the half word of the heard map has no bit.
+// Whether the levels of half a word are in range, and 0 where the half word of the heard map has no bit.
 // All 32 are gathered before it leaves, and bits are as wide as levels, so that the compiled loop takes several at a time.
-fn half_fine(levels: &[i32; CHANNELS], at: usize, heard: u32) -> bool
-    requires { at + half_bits ≤ channels }
-    ensures { result ≡ levels_fine levels.now at heard half_bits }
+fn half_fine(levels: &[i32], heard: u32) -> bool
+    requires { length levels.now ≡ half_bits }
+    ensures { result ≡ levels_fine levels.now 0 heard half_bits }
 {
-    let mut ok = true;
-    let mut k = 0;
-    while k < HALF_BITS {
-        let level = levels[at + k];
-        ok = ok
-            & ((LEVEL_LOWEST <= level) & (level <= LEVEL_HIGHEST))
-            & ((level == 0) | ((heard >> k) % 2 == 1));
-        k += 1;
+    let mut fine = true;
+    for (k, level) in levels.iter().enumerate() {
+        fine &= (LEVEL_LOWEST..=LEVEL_HIGHEST).contains(level)
+            & ((*level == 0) | ((heard >> k) % 2 == 1));
     }
-    ok
+    fine
 }
 
-// The same of the 64 levels from `at` on, where no bit is set: all are 0. A test of its own, as it takes a sixth of the time.
-fn all_zero(levels: &[i32; CHANNELS], at: usize) -> bool
-    requires { at + word_bits ≤ channels }
-    ensures { result ≡ levels_fine levels.now at 0 word_bits }
+// The same of the levels of a word where no bit is set: all are 0. A test of its own, as it takes a sixth of the time.
+fn all_zero(levels: &[i32]) -> bool
+    ensures { result ≡ levels_fine levels.now 0 0 (length levels.now) }
 {
-    let mut ok = true;
-    let mut k = 0;
-    while k < WORD_BITS {
-        let level = levels[at + k];
-        ok = ok & (level == 0);
-        k += 1;
+    let mut zero = true;
+    for level in levels {
+        zero &= *level == 0;
     }
-    ok
+    zero
 }
 
 // Whether a word of the maps, with its 64 levels, stands as it may: heard only where visited, and the levels as above.
-fn word_fine(levels: &[i32; CHANNELS], at: usize, visited: u64, heard: u64) -> bool
-    requires { at + word_bits ≤ channels }
-    ensures { result ≡ word_fine levels.now at visited heard }
+fn word_fine(levels: &[i32], visited: u64, heard: u64) -> bool
+    requires { length levels.now ≡ word_bits }
+    ensures { result ≡ word_fine levels.now 0 visited heard }
 {
     if heard == 0 {
-        return all_zero(levels, at);
+        return all_zero(levels);
     }
-    let low = (heard % HALF_WORD) as u32;
-    let high = (heard / HALF_WORD) as u32;
+    let (lower, upper) = levels.split_at(HALF_BITS);
     ((heard & visited) == heard)
-        & (half_fine(levels, at, low) & half_fine(levels, at + HALF_BITS, high))
+        & (half_fine(lower, (heard % HALF_WORD) as u32)
+            & half_fine(upper, (heard / HALF_WORD) as u32))
 }
 
 // Whether no channel outside 2 to 1,086 is marked in a map.
-fn ends_clear(map: &[u64; 17]) -> bool
+fn ends_clear(map: &[u64; WORDS]) -> bool
     ensures { result ≡ ends_clear map.now }
 {
     let low = map[0];
@@ -124,175 +106,148 @@ fn ends_clear(map: &[u64; 17]) -> bool
     (low % (1u64 << FIRST_SWEPT) == 0) & ((high >> (LAST_SWEPT % WORD_BITS + 1)) % 2 == 0)
 }
 
-// Whether a record is well formed. It goes through the maps and the levels once, a word of 64 channels at a time.
-fn well_formed<'a>(
-    levels: &'a [i32; CHANNELS],
-    visited: &'a [u64; 17],
-    heard: &'a [u64; 17],
-) -> bool
-    ensures { result ≡ well_formed (record { levels = levels.now; visited = visited.now; heard = heard.now }) }
+// Whether a record is well formed. It goes through the levels and the maps once, a word of 64 channels at a time.
+fn well_formed(sweep: &Sweep) -> bool
+    ensures { result ≡ well_formed sweep.now }
 {
-    if !ends_clear(visited) {
+    if !ends_clear(&sweep.visited) {
         return false;
     }
-    let mut i = 0;
-    while i < WORDS {
-        let v = visited[i];
-        let h = heard[i];
-        if !word_fine(levels, i * WORD_BITS, v, h) {
+    let words = sweep.visited.iter().zip(&sweep.heard);
+    for (levels, (visited, heard)) in sweep.levels.chunks_exact(WORD_BITS).zip(words) {
+        if !word_fine(levels, *visited, *heard) {
             return false;
         }
-        i += 1;
     }
     true
 }
 
 // The ones of a map.
-fn ones(map: [u64; 17]) -> u32
-    ensures { result ≡ set_bits map }
+fn ones(map: &[u64; WORDS]) -> u32
+    ensures { result ≡ set_bits map.now }
 {
-    let mut n: u32 = 0;
-    let mut i = 0;
-    while i < WORDS {
-        let w = map[i];
-        n += u64::count_ones(w);
-        i += 1;
-    }
-    n
+    map.iter().map(|word| word.count_ones()).sum()
 }
 
-// The lowest channel of the sweep whose bit is clear. Each turn passes the set bits from c on in one word; the bits above the word, which
-// the shift brings in, are clear.
-fn lowest_clear(map: [u64; 17]) -> NextChannel
-    ensures { told_next result ≡ gives (lowest_not (is_set map) swept_channels first_swept) }
+// The lowest channel of the sweep whose bit is clear. The set bits of a word, from its first swept channel on, are passed at once; the
+// bits above the word, which the shift brings in, are clear.
+fn lowest_clear(map: &[u64; WORDS]) -> Option<u16>
+    ensures { next_of_answer result ≡ lowest_not (is_set map.now) swept_channels first_swept }
 {
-    let mut c = FIRST_SWEPT;
-    while c <= LAST_SWEPT {
-        let w = map[c / WORD_BITS];
-        let run = u64::trailing_zeros(!(w >> (c % WORD_BITS)));
-        if run == 0 {
-            return NextChannel::Channel(c as u16);
+    for (i, word) in map.iter().enumerate() {
+        let first = FIRST_SWEPT.max(i * WORD_BITS);
+        let end = (LAST_SWEPT + 1).min((i + 1) * WORD_BITS);
+        let c = first + (!(*word >> (first % WORD_BITS))).trailing_zeros() as usize;
+        if c < end {
+            return Some(c as u16);
         }
-        c += run as usize;
     }
-    NextChannel::Done
+    None
 }
 
-// The record with a channel visited and missed: its level stays 0.
-fn with_missed(s: Sweep, c: usize) -> Sweep
-    requires { (c < channels) × (visited s c ≡ false) }
-    ensures { result ≡ with_missed s c }
+// Marks a channel as visited and missed: its level stays 0.
+fn mark_missed(sweep: &mut Sweep, c: usize)
+    requires { c < channels }
+    ensures { sweep.new ≡ with_missed sweep.old c }
 {
-    let visited = s.visited;
-    let marked = set_bit(visited, c);
-    let mut t = s;
-    t.visited = marked;
-    t
+    set_bit(&mut sweep.visited, c);
 }
 
-// The record with a channel visited and heard at a level.
-fn with_heard(s: Sweep, c: usize, level: i32) -> Sweep
-    requires { (c < channels) × (visited s c ≡ false) × (heard s c ≡ false) }
-    ensures { result ≡ with_heard s c level }
+// Marks a channel as visited and heard at a level.
+fn mark_heard(sweep: &mut Sweep, c: usize, level: i32)
+    requires { c < channels }
+    ensures { sweep.new ≡ with_heard sweep.old c level }
 {
-    let visited = s.visited;
-    let v = set_bit(visited, c);
-    let heard = s.heard;
-    let h = set_bit(heard, c);
-    let mut t = s;
-    t.visited = v;
-    t.heard = h;
-    t.levels[c] = level;
-    t
+    set_bit(&mut sweep.visited, c);
+    set_bit(&mut sweep.heard, c);
+    sweep.levels[c] = level;
 }
 
-// Accepted, with the record that a call leaves.
-fn accepted(sweep: Sweep) -> SweepOutcome
-    ensures { (result.sweep ≡ sweep) × (told_outcome result.answer ≡ accepted) }
+// The test of a record: refusal 9 where it is not well formed.
+fn tested(sweep: &Sweep) -> Result<(), Refusal>
+    ensures { told result ≡ checking sweep.now }
 {
-    SweepOutcome {
-        sweep,
-        answer: Outcome::Accepted,
+    if well_formed(sweep) {
+        Ok(())
+    } else {
+        Err(Refusal::RecordNotWellFormed)
     }
 }
 
-// Refused, with the record that a call was given.
-fn refused(sweep: Sweep, why: Refusal) -> SweepOutcome
-    ensures { (result.sweep ≡ sweep) × (told_outcome result.answer ≡ refused_for why) }
+// Files a burst's result in the record; refused, the record stays as it was.
+fn filed(sweep: &mut Sweep, channel: u16, burst: Burst) -> Result<(), Refusal>
+    ensures sweep { sweep.new ≡ leaves sweep.old (filing sweep.old channel burst) }
+    ensures answer { told result ≡ acceptance (filing sweep.old channel burst) }
 {
-    SweepOutcome {
-        sweep,
-        answer: Outcome::Refused(why),
+    tested(sweep)?;
+    let c = channel as usize;
+    if !is_swept(c) {
+        return Err(Refusal::ChannelOutOfRange);
     }
+    if is_set(&sweep.visited, c) {
+        return Err(Refusal::ChannelVisited);
+    }
+    match readings::burst_to_hundredths(burst)? {
+        Burst::Heard(reading) => mark_heard(sweep, c, reading.level),
+        Burst::Missed => mark_missed(sweep, c),
+    }
+    Ok(())
 }
 
 // The public test of a record: accepted, or refusal 9.
-pub fn check(sweep: Sweep) -> SweepOutcome
-    ensures sweep { result.sweep ≡ sweep }
-    ensures answer { told_outcome result.answer ≡ checking sweep }
+pub fn check(sweep: Sweep) -> Handed<Sweep, ()>
+    ensures sweep { result.state ≡ sweep }
+    ensures answer { told result.answer ≡ checking sweep }
 {
-    if well_formed(&sweep.levels, &sweep.visited, &sweep.heard) {
-        accepted(sweep)
-    } else {
-        refused(sweep, Refusal::RecordNotWellFormed)
+    let answer = tested(&sweep);
+    Handed {
+        state: sweep,
+        answer,
     }
 }
 
 // Files a burst's result for a channel not yet visited. Refusals 9, 2, 3, 1, in this order; both floats of a heard burst are tested.
-pub fn file(sweep: Sweep, channel: u16, burst: Burst) -> SweepOutcome
-    ensures sweep { result.sweep ≡ leaves sweep (filing sweep channel burst) }
-    ensures answer { told_outcome result.answer ≡ acceptance (filing sweep channel burst) }
+pub fn file(mut sweep: Sweep, channel: u16, burst: Burst) -> Handed<Sweep, ()>
+    ensures sweep { result.state ≡ leaves sweep (filing sweep channel burst) }
+    ensures answer { told result.answer ≡ acceptance (filing sweep channel burst) }
 {
-    let c = channel as usize;
-    if !well_formed(&sweep.levels, &sweep.visited, &sweep.heard) {
-        return refused(sweep, Refusal::RecordNotWellFormed);
-    }
-    if !is_swept(c) {
-        return refused(sweep, Refusal::ChannelOutOfRange);
-    }
-    if is_set(&sweep.visited, c) {
-        return refused(sweep, Refusal::ChannelVisited);
-    }
-    match readings::burst_to_hundredths(burst) {
-        BurstHundredths::Heard(r) => accepted(with_heard(sweep, c, r.level)),
-        BurstHundredths::Missed => accepted(with_missed(sweep, c)),
-        BurstHundredths::Refused(why) => refused(sweep, why),
+    let answer = filed(&mut sweep, channel, burst);
+    Handed {
+        state: sweep,
+        answer,
     }
 }
 
-// The lowest channel not visited, or done. Refusal 9 alone.
-pub fn next(sweep: Sweep) -> SweepNext
-    ensures sweep { result.sweep ≡ sweep }
+// The lowest channel not visited, or done, of a lent record. Refusal 9 alone.
+pub fn next_channel(sweep: &Sweep) -> Result<Option<u16>, Refusal>
+    ensures { told_next result ≡ next_told sweep.now }
+{
+    tested(sweep).map(|()| lowest_clear(&sweep.visited))
+}
+
+// The same of a record that goes by value and comes back.
+pub fn next(sweep: Sweep) -> Handed<Sweep, Option<u16>>
+    ensures sweep { result.state ≡ sweep }
     ensures answer { told_next result.answer ≡ next_told sweep }
 {
-    if !well_formed(&sweep.levels, &sweep.visited, &sweep.heard) {
-        return SweepNext {
-            sweep,
-            answer: NextChannel::Refused(Refusal::RecordNotWellFormed),
-        };
+    let answer = next_channel(&sweep);
+    Handed {
+        state: sweep,
+        answer,
     }
-    let visited = sweep.visited;
-    let answer = lowest_clear(visited);
-    SweepNext { sweep, answer }
 }
 
 // The numbers visited and heard: the set bits of each map. Refusal 9 alone.
-pub fn counts(sweep: Sweep) -> SweepNumbers
-    ensures sweep { result.sweep ≡ sweep }
+pub fn counts(sweep: Sweep) -> Handed<Sweep, Numbers>
+    ensures sweep { result.state ≡ sweep }
     ensures answer { told_numbers result.answer ≡ counts_told sweep }
 {
-    if !well_formed(&sweep.levels, &sweep.visited, &sweep.heard) {
-        return SweepNumbers {
-            sweep,
-            answer: Numbers::Refused(Refusal::RecordNotWellFormed),
-        };
-    }
-    let map = sweep.visited;
-    let visited = ones(map);
-    let map = sweep.heard;
-    let heard = ones(map);
-    SweepNumbers {
-        sweep,
-        answer: Numbers::Of { visited, heard },
+    let answer = tested(&sweep).map(|()| Numbers {
+        visited: ones(&sweep.visited),
+        heard: ones(&sweep.heard),
+    });
+    Handed {
+        state: sweep,
+        answer,
     }
 }

@@ -6,6 +6,7 @@ ghost use Rattle.sweep_rules.specs.Claims.{RecordRule, FreshRule, OnesAreChannel
 ghost use Rattle.sweep_rules.specs.Claims.{NextLowest, AnswerRule, FinishedRule, SequenceRule, FiledFromFresh, AnswersDiffer, AnswersTold};
 
 // The sweep record: a level in hundredths for each of the 1,088 channel numbers, and two maps, a bit per channel.
+// The C interface has this layout, so these stay three arrays side by side.
 #[repr(C)]
 #[derive(Clone, Copy, PartialEq, Eq)]
 pub struct Sweep {

@@ -2,45 +2,37 @@
 #![tactic(auto)]
 
 use choice::Choice;
-use power::{Decoded, PowerParameters};
-use readings::{Burst, Hundredths, Reading, Shown};
-use refusal::{Outcome, Refusal};
-use sweep::{NextChannel, Numbers, Sweep};
+use power::{Decoded, PowerParameters, Sent};
+use readings::{Burst, Reading};
+use refusal::Refusal;
+use std::io;
+use sweep::{CHANNELS, FIRST_SWEPT, LAST_SWEPT, Sweep};
 use watch_rules::Answer;
 
-fn say(what: &[u8], n: u64) {
-    io::write_all(1, what);
-    io::print_decimal(1, n);
-    io::write_all(1, b"\n");
+fn say_refused(rt: &impl Print, why: Refusal) -> io::Result<()> {
+    let number = why.number();
+    println!(rt; "refused {number}")
 }
 
-fn say_refused(why: Refusal) {
-    say(b"refused ", refusal::number(why) as u64);
-}
-
-fn say_outcome(what: &[u8], outcome: Outcome) {
-    match outcome {
-        Outcome::Accepted => {
-            io::write_all(1, what);
-        }
-        Outcome::Refused(why) => say_refused(why),
+// A call that gives no value: what is said where it is accepted.
+fn say_outcome(rt: &impl Print, what: &str, answer: Result<(), Refusal>) -> io::Result<()> {
+    match answer {
+        Ok(()) => println!(rt; "{what}"),
+        Err(why) => say_refused(rt, why),
     }
 }
 
-// A level in whole hundredths of a dB, shown as a float again.
-fn say_level(x: f32) {
-    match readings::level_to_hundredths(x) {
-        Hundredths::Value(h) => match readings::level_to_float(h) {
-            Shown::Value(back) => {
-                if back == x {
-                    io::write_all(1, b"level shown as it was\n");
-                } else {
-                    io::write_all(1, b"level shown rounded\n");
-                }
-            }
-            Shown::Refused(why) => say_refused(why),
-        },
-        Hundredths::Refused(why) => say_refused(why),
+// A level in whole hundredths of a dB, shown as a float again. A refusal of either call is passed on.
+fn shown_again(x: f32) -> Result<f32, Refusal> {
+    let hundredths = readings::level_to_hundredths(x)?;
+    readings::level_to_float(hundredths)
+}
+
+fn say_level(rt: &impl Print, x: f32) -> io::Result<()> {
+    match shown_again(x) {
+        Ok(back) if back == x => println!(rt; "level shown as it was"),
+        Ok(_) => println!(rt; "level shown rounded"),
+        Err(why) => say_refused(rt, why),
     }
 }
 
@@ -55,106 +47,77 @@ fn burst_on(channel: u16) -> Burst {
     Burst::Missed
 }
 
-// Files a burst for the next channel. The answer is copied before a `match` or a `let .. else` on it.
-fn with_next(s: Sweep) -> Sweep {
-    let n = sweep::next(s);
-    let answer = n.answer;
-    let NextChannel::Channel(c) = answer else {
-        return n.sweep;
-    };
-    let o = sweep::file(n.sweep, c, burst_on(c));
-    o.sweep
-}
-
+// Files a burst for the next channel until there is none.
 fn swept() -> Sweep {
-    let mut s = sweep::fresh();
-    let mut filed: usize = 0;
-    while filed < 1_085 {
-        s = with_next(s);
-        filed += 1;
+    let mut sweep = sweep::fresh();
+    for _ in FIRST_SWEPT..=LAST_SWEPT {
+        let Ok(Some(channel)) = sweep::next(sweep).answer else {
+            break;
+        };
+        sweep = sweep::file(sweep, channel, burst_on(channel)).state;
     }
-    s
+    sweep
 }
 
-fn say_counts(s: Sweep) {
-    let n = sweep::counts(s);
-    let answer = n.answer;
-    match answer {
-        Numbers::Of { visited, heard } => {
-            say(b"visited ", visited as u64);
-            say(b"heard ", heard as u64);
+fn say_counts(rt: &impl Print, sweep: Sweep) -> io::Result<()> {
+    match sweep::counts(sweep).answer {
+        Ok(numbers) => {
+            println!(rt; "visited {}", numbers.visited)?;
+            println!(rt; "heard {}", numbers.heard)
         }
-        Numbers::Refused(why) => say_refused(why),
+        Err(why) => say_refused(rt, why),
     }
 }
 
 // The margin is in hundredths; nothing was read on any channel yet.
-fn say_choice(s: Sweep) {
-    let outcomes = [0u8; 1088];
-    let chosen = choice::choose(s, 300, &outcomes);
-    let answer = chosen.answer;
-    match answer {
-        Choice::Camp { channel, tried: _ } => say(b"camp on ", channel as u64),
-        Choice::Read { channel, tried: _ } => say(b"read ", channel as u64),
-        Choice::NoBeam { tried } => say(b"no beam, tried ", tried as u64),
-        Choice::Refused(why) => say_refused(why),
+fn say_choice(rt: &impl Print, sweep: Sweep) -> io::Result<()> {
+    match choice::choose(sweep, 300, &[0; CHANNELS]).answer {
+        Ok(Choice::Camp { channel, .. }) => println!(rt; "camp on {channel}"),
+        Ok(Choice::Read { channel, .. }) => println!(rt; "read {channel}"),
+        Ok(Choice::NoBeam { tried }) => println!(rt; "no beam, tried {tried}"),
+        Err(why) => say_refused(rt, why),
     }
 }
 
 // A record that was kept by the caller can be tested.
-fn say_sweep() {
-    let s = swept();
-    let o = sweep::check(s);
-    let answer = o.answer;
-    say_outcome(b"sweep well formed\n", answer);
-    say_counts(s);
-    say_choice(s);
+fn say_sweep(rt: &impl Print) -> io::Result<()> {
+    let sweep = swept();
+    say_outcome(rt, "sweep well formed", sweep::check(sweep).answer)?;
+    say_counts(rt, sweep)?;
+    say_choice(rt, sweep)
 }
 
 // Every answer of a call on a watch.
-fn say_watch(answer: Answer) {
+fn say_watch(rt: &impl Print, answer: Result<Answer, Refusal>) -> io::Result<()> {
     match answer {
-        Answer::Accepted => {
-            io::write_all(1, b"accepted\n");
-        }
-        Answer::Refused(why) => say_refused(why),
-        Answer::Levels { count, mean: _ } => say(b"levels ", count as u64),
-        Answer::Wait => {
-            io::write_all(1, b"wait\n");
-        }
-        Answer::Stay => {
-            io::write_all(1, b"stay\n");
-        }
-        Answer::MoveTo(channel) => say(b"move to ", channel as u64),
+        Ok(Answer::Accepted) => println!(rt; "accepted"),
+        Ok(Answer::Levels { count, .. }) => println!(rt; "levels {count}"),
+        Ok(Answer::Wait) => println!(rt; "wait"),
+        Ok(Answer::Stay) => println!(rt; "stay"),
+        Ok(Answer::MoveTo(channel)) => println!(rt; "move to {channel}"),
+        Err(why) => say_refused(rt, why),
     }
 }
 
 // Each call hands its watch on to the next. The start gives its depth, 5 to 31: how many levels of a channel make a mean. The hysteresis is in
 // hundredths. While the serving channel has fewer levels than the depth, the verdict is to wait.
-fn say_watched() {
-    let h = watch::start(watch::fresh(), 310, 15);
-    let list = [118u16, 42, 205];
-    let h = watch::new_beam(h.watch, 310, &list);
-    let h = watch::file(h.watch, 42, burst_on(42));
-    let h = watch::ask(h.watch, 42);
-    let answer = h.answer;
-    say_watch(answer);
-    let h = watch::verdict(h.watch, 300);
-    let answer = h.answer;
-    say_watch(answer);
+fn say_watched(rt: &impl Print) -> io::Result<()> {
+    let started = watch::start(watch::fresh(), 310, 15);
+    let listed = watch::new_beam(started.state, 310, &[118, 42, 205]);
+    let filed = watch::file(listed.state, 42, burst_on(42));
+    let asked = watch::ask(filed.state, 42);
+    say_watch(rt, asked.answer)?;
+    let judged = watch::verdict(asked.state, 300);
+    say_watch(rt, judged.answer)?;
     // Channel 42 serves now, and 310 is in its list: both keep their levels.
-    let list = [118u16, 310, 205];
-    let h = watch::new_beam(h.watch, 42, &list);
-    let answer = h.answer;
-    say_watch(answer);
-    let h = watch::check(h.watch);
-    let answer = h.answer;
-    say_watch(answer);
+    let moved = watch::new_beam(judged.state, 42, &[118, 310, 205]);
+    say_watch(rt, moved.answer)?;
+    say_watch(rt, watch::check(moved.state).answer)
 }
 
 // The parameters are codes, and the quality SQI is in hundredths. A step hands on the record that it was given, advanced.
-fn say_power() {
-    let p = PowerParameters {
+fn say_power(rt: &impl Print) -> io::Result<()> {
+    let parameters = PowerParameters {
         sqt: 80,
         paninit: 24,
         panmin: 4,
@@ -163,24 +126,21 @@ fn say_power() {
         gaindn: 8,
         mestep: 2,
     };
-    let h = power::start(p);
-    let s = power::step(p, h.power, Decoded::Codes { pan: 20, par: 20 }, 850);
-    let answer = s.answer;
-    match answer {
-        power::Answer::Send { par, pan } => {
-            say(b"send PAR ", par as u64);
-            say(b"send PAN ", pan as u64);
+    let started = power::start(parameters);
+    let stepped = power::step(parameters, started.state, Decoded::Codes { pan: 20, par: 20 }, 850);
+    match stepped.answer {
+        Ok(Sent { par, pan }) => {
+            println!(rt; "send PAR {par}")?;
+            println!(rt; "send PAN {pan}")?;
         }
-        power::Answer::Refused(why) => say_refused(why),
+        Err(why) => say_refused(rt, why)?,
     }
-    let h = power::check(s.power);
-    let answer = h.answer;
-    say_outcome(b"power record well formed\n", answer);
+    say_outcome(rt, "power record well formed", power::check(stepped.state).answer)
 }
 
-fn main() {
-    say_level(-97.25);
-    say_sweep();
-    say_watched();
-    say_power();
+fn main(rt: HostRuntime) -> io::Result<()> {
+    say_level(&rt, -97.25)?;
+    say_sweep(&rt)?;
+    say_watched(&rt)?;
+    say_power(&rt)
 }

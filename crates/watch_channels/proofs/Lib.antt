@@ -1,3 +1,2 @@
--- The laws that the proofs of these calls share.
-pub mod ListScan
+-- The laws of a new beam.
 pub mod NewBeam

@@ -1,40 +1,21 @@
 -- A new beam: a watch built channel by channel, each with the levels that it had.
 use Prim.Native.Nat.{ℕ, ◌+◌, ◌≤◌, ◌<◌}
 use mathlib.Core.Path.{◌≡◌, refl, sym, ap, ◌∙◌}
-use mathlib.Core.Bool.{Bool, true, cond}
 use mathlib.Core.List.{List, [], ◌∷◌, ◌++◌, map}
 use native.Mathlib.Omega.{arith}
-use lib.Dec.{ltb}
-use lib.IntN.{ℤ}
 use lib.ListN.{length, take, get_or, set, length-map}
-use lib.Seq.{length-take-le}
-use borrow.Author.Tests.{ltb-true, ltb-false}
+use lib.Seq.{length-take-le, take-suc}
+use native.Mathlib.Numerals.{add-one}
 use Rattle.watch_rules.specs.declared.Track.{Track}
-use Rattle.watch_rules.specs.Lists.{mem, pad_to}
+use Rattle.watch_rules.specs.Lists.{pad_to}
 use Rattle.watch_rules.specs.Limits.{list_limit, room}
 use Rattle.watch_rules.specs.Rows.{Row, row, levels_of, relisted}
-use Rattle.watch_rules.specs.Record.{row_of, track_of, unused, tracks_fine}
-use Rattle.watch_rules.proofs.Laws.{by_case, levels_none}
+use Rattle.watch_rules.specs.Record.{track_of, unused}
 use Rattle.watch_rules.proofs.Relist.{length_relisted}
-use Rattle.watch_record.specs.Code.{nothing, place_of}
-use Rattle.watch_record.proofs.Scan.{channels_rows}
-use Rattle.watch_record.proofs.Tracks.{track_at, place_among, place_outside, pad_to_snoc}
-use Rattle.watch_channels.specs.Code.{kept_from}
-use Rattle.watch_channels.proofs.ListScan.{more}
+use Rattle.watch_record.proofs.Tracks.{pad_to_snoc}
 
--- a channel with the levels at its own place is the track of its row, with the levels that it had
-module _ (d n c : ℕ) (ts : List Track) (fine : tracks_fine d n ts ≡ true) where
-  pub kept_levels : kept_from ts n (place_of c (take n ts)) c ≡ track_of (row c (levels_of c (map row_of (take n ts))))
-  kept_levels =
-      by_case (ltb (place_of c (take n ts)) n)
-      (λ q. ap (λ (b : Bool). cond b (renamed (get_or ts (place_of c (take n ts)) nothing)) (track_of (row c []))) q
-      ∙ ap renamed (sym (track_at d n c ts fine (place_among d n c ts fine (ltb-true (place_of c (take n ts)) n q)))))
-      (λ q. ap (λ (b : Bool). cond b (renamed (get_or ts (place_of c (take n ts)) nothing)) (track_of (row c []))) q
-      ∙ sym (ap (λ (l : List ℤ). track_of (row c l)) (levels_none c (map row_of (take n ts))
-      (ap (mem c) (channels_rows (take n ts)) ∙ place_outside d n c ts fine (ltb-false (place_of c (take n ts)) n q)))))
-    where
-      renamed : Track → Track
-      renamed t = record { channel = c; count = t.count; levels = t.levels }
+more : (l : List ℕ) (i : ℕ) → i < length l → take (i + 1) l ≡ take i l ++ get_or l i 0 ∷ []
+more l i inside = ap (λ (k : ℕ). take k l) (add-one i) ∙ take-suc l i 0 inside
 
 map_snoc : {A B : Type 0} (f : A → B) (l : List A) (a : A) → map f (l ++ a ∷ []) ≡ map f l ++ f a ∷ []
 map_snoc f [] a = refl

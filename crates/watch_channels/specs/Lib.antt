@@ -1,2 +1,0 @@
--- What the private functions return.
-pub mod Code

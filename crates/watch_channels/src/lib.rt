@@ -3,147 +3,123 @@
 // `watch::start` and `watch::new_beam`.
 #![tactic(auto)]
 
-ghost use Rattle.std.specs.Prelude.{◌≡◌, true, [], map, ◌≤◌, length, take};
-ghost use Rattle.refusal.specs.Told.{accepted, told_outcome};
-ghost use Rattle.watch_rules.specs.Lists.{mem};
-ghost use Rattle.watch_rules.specs.Limits.{list_limit, room};
-ghost use Rattle.watch_rules.specs.Told.{Call, told_handed};
+ghost use Rattle.std.specs.Prelude.{◌≡◌, [], ◌≤◌, length};
+ghost use Rattle.refusal.specs.Told.{accepted, told};
+ghost use Rattle.watch_rules.specs.Limits.{list_limit};
+ghost use Rattle.watch_rules.specs.Told.{Call, told_answer, told_handed};
 ghost use Rattle.watch_rules.specs.Rules.{unless_faulty_from, unless_faulty};
-ghost use Rattle.watch_rules.specs.Rows.{relisted};
-ghost use Rattle.watch_rules.specs.Record.{record_of, row_of, tracks_fine, called};
-ghost use Rattle.watch_channels.specs.Code.{kept_from};
+ghost use Rattle.watch_rules.specs.Rows.{row, levels_of, relisted};
+ghost use Rattle.watch_rules.specs.Record.{record_of, rows, track_of, called};
+ghost use Rattle.watch_record.specs.Code.{back};
 
 use readings_rules::CHANNEL_HIGHEST;
-use refusal::{Outcome, Refusal};
-use watch_record::{answered, depth_in_range, empty, fresh, place, refused, well_formed};
-use watch_rules::{Answer, Handed, LIST_LIMIT, ROOM, Track, Watch};
+use refusal::{Handed, Refusal};
+use watch_record::{Sound, depth_in_range, empty, fresh};
+use watch_rules::{Answer, LIST_LIMIT, Track, Watch};
 
 // Start: that channel alone, without levels, at this depth.
-pub fn start(w: Watch, serving: u16, depth: usize) -> Handed
+pub fn start(mut w: Watch, serving: u16, depth: usize) -> Handed<Watch, Answer>
     ensures { told_handed result ≡ called w (Call.start serving depth) }
 {
-    if !well_formed(w) {
-        return refused(w, Refusal::RecordNotWellFormed);
-    }
-    if !depth_in_range(depth) {
-        return refused(w, Refusal::ParameterOutOfRange);
-    }
-    if serving > CHANNEL_HIGHEST {
-        return refused(w, Refusal::ChannelOutOfRange);
-    }
-    let mut started = fresh();
-    let t = empty(serving);
-    started.tracks[0] = t;
-    started.watched = 1;
-    started.depth = depth;
-    answered(started, Answer::Accepted)
+    let answer = started(&mut w, serving, depth);
+    Handed { state: w, answer }
 }
 
-// The channel is among the first n of the list.
-fn has(list: &[u16], n: usize, channel: u16) -> bool
-    requires { n ≤ length list.now }
-    ensures { result ≡ mem channel (take n list.now) }
+fn started(w: &mut Watch, serving: u16, depth: usize) -> Result<Answer, Refusal>
+    ensures { back w.new (told_answer result) ≡ called w.old (Call.start serving depth) }
 {
-    let mut i = 0;
-    while i < n {
-        if list[i] == channel {
-            return true;
-        }
-        i += 1;
+    Sound::of(w)?;
+    if !depth_in_range(depth) {
+        return Err(Refusal::ParameterOutOfRange);
     }
-    false
+    if serving > CHANNEL_HIGHEST {
+        return Err(Refusal::ChannelOutOfRange);
+    }
+    *w = Watch {
+        watched: 1,
+        depth,
+        ..fresh()
+    };
+    w.tracks[0] = empty(serving);
+    Ok(Answer::Accepted)
 }
 
 // The fault of the first faulty place of a list that is not too long: range, serving channel, repeat of an earlier place.
-fn first_fault(list: &[u16], serving: u16) -> Outcome
+fn first_fault(list: &[u16], serving: u16) -> Result<(), Refusal>
     requires { length list.now ≤ list_limit }
-    ensures { told_outcome result ≡ unless_faulty_from serving [] list.now accepted }
+    ensures { told result ≡ unless_faulty_from serving [] list.now accepted }
 {
-    let n = list.len();
-    let mut i = 0;
-    while i < n {
-        let c = list[i];
+    for (i, channel) in list.iter().enumerate() {
         let place = i as u32;
-        if c > CHANNEL_HIGHEST {
-            return Outcome::Refused(Refusal::ListedOutOfRange(place));
+        if *channel > CHANNEL_HIGHEST {
+            return Err(Refusal::ListedOutOfRange(place));
         }
-        if c == serving {
-            return Outcome::Refused(Refusal::ListedServing(place));
+        if *channel == serving {
+            return Err(Refusal::ListedServing(place));
         }
-        if has(list, i, c) {
-            return Outcome::Refused(Refusal::ListedAgain(place));
+        if list[..i].contains(channel) {
+            return Err(Refusal::ListedAgain(place));
         }
-        i += 1;
     }
-    Outcome::Accepted
+    Ok(())
 }
 
 // The fault of the list of a serving channel, where it has one: over 6 channels comes first.
-fn list_fault(list: &[u16], serving: u16) -> Outcome
-    ensures { told_outcome result ≡ unless_faulty serving list.now accepted }
+fn list_fault(list: &[u16], serving: u16) -> Result<(), Refusal>
+    ensures { told result ≡ unless_faulty serving list.now accepted }
 {
     if list.len() > LIST_LIMIT {
-        return Outcome::Refused(Refusal::ListTooLong);
+        return Err(Refusal::ListTooLong);
     }
     first_fault(list, serving)
 }
 
-// The channel with the levels of the track at place p; without levels where p is not below n.
-fn kept(old: [Track; ROOM], n: usize, p: usize, channel: u16) -> Track
-    requires { n ≤ room }
-    ensures { result ≡ kept_from old n p channel }
+// A channel with the levels that it had, in whichever role; without levels where it was not under watch.
+fn kept(w: Sound, channel: u16) -> Track
+    ensures { result ≡ track_of (row channel (levels_of channel (rows w.entry.watch.now))) }
 {
-    if p < n {
-        let mut t = old[p];
-        t.channel = channel;
-        return t;
+    match w.place(channel) {
+        Some(place) => w.tracks()[place],
+        None => empty(channel),
     }
-    empty(channel)
 }
 
 // The serving channel and the channels of the list, in this order, each with the levels that it had.
-fn relist(old: [Track; ROOM], n: usize, depth: usize, serving: u16, list: &[u16]) -> Watch
-    requires { (n ≤ room) × (tracks_fine depth n old ≡ true) × (length list.now ≤ list_limit) }
-    ensures { result ≡ record_of depth (relisted serving list.now (map row_of (take n old))) }
+fn relist(w: Sound, serving: u16, list: &[u16]) -> Watch
+    requires { length list.now ≤ list_limit }
+    ensures { result ≡ record_of w.entry.watch.now.depth (relisted serving list.now (rows w.entry.watch.now)) }
 {
-    let mut v = fresh();
-    // A channel's place before, whatever its role is now, not its place in the list.
-    let first = place(old, n, serving);
-    let s = kept(old, n, first, serving);
-    v.tracks[0] = s;
-    let k = list.len();
-    let mut i = 0;
-    while i < k {
-        let c = list[i];
-        let at = i + 1;
-        let p = place(old, n, c);
-        let t = kept(old, n, p, c);
-        v.tracks[at] = t;
-        i += 1;
+    let mut beam = Watch {
+        watched: list.len() + 1,
+        depth: w.watch.depth,
+        ..fresh()
+    };
+    beam.tracks[0] = kept(w, serving);
+    for (i, channel) in list.iter().enumerate() {
+        beam.tracks[i + 1] = kept(w, *channel);
     }
-    v.watched = k + 1;
-    v.depth = depth;
-    v
+    beam
 }
 
 // New beam: a serving channel and its list; a channel watched before and after keeps its levels, in whichever role.
-pub fn new_beam(w: Watch, serving: u16, list: &[u16]) -> Handed
+pub fn new_beam(mut w: Watch, serving: u16, list: &[u16]) -> Handed<Watch, Answer>
     ensures { told_handed result ≡ called w (Call.new_beam serving list.now) }
 {
-    if !well_formed(w) {
-        return refused(w, Refusal::RecordNotWellFormed);
-    }
+    let answer = renewed(&mut w, serving, list);
+    Handed { state: w, answer }
+}
+
+fn renewed(w: &mut Watch, serving: u16, list: &[u16]) -> Result<Answer, Refusal>
+    ensures { back w.new (told_answer result) ≡ called w.old (Call.new_beam serving list.now) }
+{
+    let sound = Sound::of(w)?;
     if serving > CHANNEL_HIGHEST {
-        return refused(w, Refusal::ChannelOutOfRange);
+        return Err(Refusal::ChannelOutOfRange);
     }
-    if let Outcome::Refused(why) = list_fault(list, serving) {
-        return refused(w, why);
+    list_fault(list, serving)?;
+    if sound.watch.watched == 0 {
+        return Err(Refusal::NotWatched);
     }
-    let n = w.watched;
-    if n == 0 {
-        return refused(w, Refusal::NotWatched);
-    }
-    let tracks = w.tracks;
-    let beam = relist(tracks, n, w.depth, serving, list);
-    answered(beam, Answer::Accepted)
+    *w = relist(sound, serving, list);
+    Ok(Answer::Accepted)
 }

@@ -1,5 +1,5 @@
 -- The tests of a record as the code makes them, from place to place: what is left to test from a place on, and one place more.
-use Prim.Native.Nat.{ℕ, zero, suc, ◌+◌, ◌-◌, ◌≤◌, ◌<◌, suc-le-suc}
+use Prim.Native.Nat.{ℕ, zero, suc, ◌+◌, ◌-◌, ◌≤◌, ◌<◌}
 use mathlib.Core.Path.{◌≡◌, refl, sym, ap, ap₂, ◌∙◌}
 use mathlib.Core.Bool.{Bool, true, false, not, cond, ◌&&◌, ◌||◌, or_assoc, and-true, and-false}
 use mathlib.Core.List.{List, [], ◌∷◌, ◌++◌, map}
@@ -7,8 +7,8 @@ use native.Mathlib.Omega.{arith}
 use native.Mathlib.Numerals.{add-one}
 use lib.Dec.{eqb, leb, ltb}
 use lib.IntN.{ℤ, pos, negsuc}
-use lib.ListN.{length, drop, take, get_or, length-take, drop_of_length-le}
-use lib.Seq.{drop-cons, take-suc, split_at, take-take, get_or-take}
+use lib.ListN.{length, drop, take, get_or, drop_of_length-le}
+use lib.Seq.{drop-cons, take-suc, split_at}
 use mir.Syntax.{w16}
 use mir.Val.{SFits, of_z}
 use borrow.Author.Tests.{eqb-true, ne_eqb, leb-true, leb-false, ltb-true, ltb-false}
@@ -17,8 +17,8 @@ use Rattle.watch_rules.specs.Lists.{mem, distinct}
 use Rattle.readings_rules.specs.Ranges.{level_in_range}
 use Rattle.watch_rules.specs.Rows.{channels}
 use Rattle.watch_rules.specs.Record.{row_of, is_zero, levels_fine, track_fine, track_unused, tracks_fine}
-use Rattle.watch_record.specs.Code.{nothing, place_of, channels_of}
-use Rattle.watch_rules.proofs.Laws.{by_case, clash, and_left, and_right, and_both, not_is, eqb_sym, or_true_right, or_false_left, or_false_right}
+use Rattle.watch_record.specs.Code.{nothing, channels_of}
+use Rattle.watch_rules.proofs.Laws.{by_case, clash, and_left, and_right, and_both, not_is, eqb_sym, or_false_left, or_false_right}
 use Rattle.watch_rules.proofs.Reach.{distinct_middle}
 
 -- a list from a place on: what stands there, and the rest
@@ -144,31 +144,6 @@ channels_more ts i h =
     ∙ channels_append (take i ts) (get_or ts i nothing ∷ [])
 
 -- all of them, round one of them
-pub channels_round : (ts : List Track) (i n : ℕ) → i < n → i < length ts
-    → channels_of (take n ts) ≡ channels_of (take i ts) ++ (get_or ts i nothing).channel ∷ channels_of (drop (suc i) (take n ts))
-channels_round ts i n h g =
-    let k : i < length (take n ts) = omega (arith, length-take n ts) in
-    ap channels_of (split_at (take n ts) i nothing k)
-    ∙ channels_append (take i (take n ts)) (get_or (take n ts) i nothing ∷ drop (suc i) (take n ts))
-    ∙ ap₂ (λ (us : List Track) (t : Track). channels_of us ++ t.channel ∷ channels_of (drop (suc i) (take n ts)))
-    (take-take i n ts (omega arith)) (get_or-take n ts i nothing h)
-
--- a place below the number of tracks is that of a channel among them
-place_mem : (c : ℕ) (ts : List Track) → mem c (channels_of ts) ≡ true → place_of c ts < length ts
-place_mem c [] h = clash h refl
-place_mem c (t ∷ ts) h =
-    by_case (eqb t.channel c)
-    (λ q. rw q (omega arith))
-    (λ q. rw q (suc-le-suc (place_mem c ts (or_true_right (eqb t.channel c) (mem c (channels_of ts)) h q))))
-
-place_not_mem : (c : ℕ) (ts : List Track) → mem c (channels_of ts) ≡ false → place_of c ts ≡ length ts
-place_not_mem c [] h = refl
-place_not_mem c (t ∷ ts) h =
-    rw (or_false_left (eqb t.channel c) (mem c (channels_of ts)) h)
-    (ap suc (place_not_mem c ts (or_false_right (eqb t.channel c) (mem c (channels_of ts)) h)))
-
-pub place-within : (c : ℕ) (ts : List Track) → place_of c ts < length ts → mem c (channels_of ts) ≡ true
-place-within c ts h = by_case (mem c (channels_of ts)) (λ e. e) (λ e. absurd (omega (arith, place_not_mem c ts e)))
-
-pub place_without : (c : ℕ) (ts : List Track) → length ts ≤ place_of c ts → mem c (channels_of ts) ≡ false
-place_without c ts h = by_case (mem c (channels_of ts)) (λ e. absurd (omega (arith, place_mem c ts e))) (λ e. e)
+pub channels_round : (ts : List Track) (i : ℕ) → i < length ts
+    → channels_of ts ≡ channels_of (take i ts) ++ (get_or ts i nothing).channel ∷ channels_of (drop (suc i) ts)
+channels_round ts i h = ap channels_of (split_at ts i nothing h) ∙ channels_append (take i ts) (get_or ts i nothing ∷ drop (suc i) ts)

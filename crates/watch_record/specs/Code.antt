@@ -1,5 +1,5 @@
 -- A watch beside its answer, and places among tracks.
-use Rattle.std.specs.Prelude.{ℕ, suc, cond, List, [], ◌∷◌, map, eqb}
+use Rattle.std.specs.Prelude.{ℕ, List, [], map}
 use Rattle.refusal.specs.Told.{Told}
 use Rattle.watch_rules.specs.declared.Track.{Track}
 use Rattle.watch_rules.specs.declared.Watch.{Watch}
@@ -9,11 +9,7 @@ use Rattle.watch_rules.specs.Told.{Given, Called}
 abbrev pub back : Watch → Told Given → Called
 back w a = record { watch = w; answer = a }
 
--- the place of the first track with a channel; as many as there are where none has it
-abbrev pub place_of : ℕ → List Track → ℕ
-place_of c [] = 0
-place_of c (t ∷ ts) = cond (eqb t.channel c) 0 (suc (place_of c ts))
-
+-- the channels of tracks
 abbrev pub channels_of : List Track → List ℕ
 channels_of ts = map (λ (t : Track). t.channel) ts
 

@@ -2,28 +2,25 @@
 // watch. The calls of the watch stand on this; users name `fresh` and `check` as `watch::fresh` and `watch::check`.
 #![tactic(auto)]
 
-ghost use Rattle.std.specs.Prelude.{◌≡◌, cond, [], ◌≤◌, take};
-ghost use Rattle.refusal.specs.Told.{refused_for};
+ghost use Rattle.std.specs.Prelude.{◌≡◌, ◌==◌, cond, [], position, take, length, MatchResult, true, false};
 ghost use Rattle.watch_rules.specs.Lists.{distinct};
 ghost use Rattle.watch_rules.specs.Limits.{depth_in_range, room};
-ghost use Rattle.watch_rules.specs.Told.{told, told_handed};
+ghost use Rattle.watch_rules.specs.Told.{told_answer, told_handed};
 ghost use Rattle.watch_rules.specs.Rows.{row};
 ghost use Rattle.watch_rules.specs.Record.{fresh as fresh_watch, track_of, levels_fine, track_fine, track_unused, tracks_fine, depth_fine, well_formed, tested};
-ghost use Rattle.watch_record.specs.Code.{back, place_of, channels_of};
+ghost use Rattle.watch_record.specs.Code.{back, channels_of};
 
 use readings_rules::{CHANNEL_HIGHEST, LEVEL_HIGHEST, LEVEL_LOWEST};
-use refusal::Refusal;
-use watch_rules::{Answer, CAPACITY, DEPTH_HIGHEST, DEPTH_LOWEST, Handed, ROOM, Track, Watch};
+use refusal::{Handed, Refusal};
+use watch_rules::{Answer, CAPACITY, DEPTH_HIGHEST, DEPTH_LOWEST, ROOM, Track, Watch};
 
 // An idle watch.
 pub fn fresh() -> Watch
     ensures { result ≡ fresh_watch }
 {
-    let t = empty(0);
-    let tracks = [t; ROOM];
     Watch {
         watched: 0,
-        tracks: tracks,
+        tracks: [empty(0); ROOM],
         depth: 0,
     }
 }
@@ -32,108 +29,68 @@ pub fn fresh() -> Watch
 pub fn empty(channel: u16) -> Track
     ensures { result ≡ track_of (row channel []) }
 {
-    let none = [0i16; CAPACITY];
     Track {
-        channel: channel,
+        channel,
         count: 0,
-        levels: none,
+        levels: [0; CAPACITY],
     }
-}
-
-pub fn answered(w: Watch, answer: Answer) -> Handed
-    ensures { told_handed result ≡ back w (told answer) }
-{
-    Handed {
-        watch: w,
-        answer: answer,
-    }
-}
-
-pub fn refused(w: Watch, why: Refusal) -> Handed
-    ensures { told_handed result ≡ back w (refused_for why) }
-{
-    answered(w, Answer::Refused(why))
 }
 
 // A track's levels lie in the range as far as its count, and are 0 beyond it. None leaves early, and places are counted in 16 bits too, so that
 // the compiled loop takes several at a time.
-fn levels_ok(t: Track) -> bool
-    ensures { result ≡ levels_fine t.count t.levels }
+fn levels_ok(t: &Track) -> bool
+    ensures { result ≡ levels_fine t.now.count t.now.levels }
 {
-    let n = t.count;
-    let levels = t.levels;
-    if n > CAPACITY {
+    if t.count > CAPACITY {
         return false;
     }
-    let count = n as u16;
+    let count = t.count as u16;
     let mut ok = true;
     let mut place: u16 = 0;
-    let mut j = 0;
-    while j < CAPACITY {
-        let x = levels[j];
-        let level = x as i32;
-        ok = ok
-            & ((LEVEL_LOWEST <= level) & (level <= LEVEL_HIGHEST))
-            & ((place < count) | (x == 0));
+    for level in &t.levels {
+        ok &= (LEVEL_LOWEST..=LEVEL_HIGHEST).contains(&i32::from(*level))
+            & ((place < count) | (*level == 0));
         place += 1;
-        j += 1;
     }
     ok
 }
 
 // A track that is used is fine; one that is not is all zero.
-fn track_ok(t: Track, used: bool, depth: usize) -> bool
-    ensures { result ≡ cond used (track_fine depth t) (track_unused depth t) }
+fn track_ok(t: &Track, used: bool, depth: usize) -> bool
+    ensures { result ≡ cond used (track_fine depth t.now) (track_unused depth t.now) }
 {
     let zero = (t.channel == 0) & (t.count == 0);
     (used | zero) & (t.channel <= CHANNEL_HIGHEST) & (t.count <= depth) & levels_ok(t)
 }
 
-// The first n tracks are fine, and the others unused.
-fn tracks_ok(tracks: [Track; ROOM], n: usize, depth: usize) -> bool
-    ensures { result ≡ tracks_fine depth n tracks }
+// The tracks that are watched are fine, and the others unused.
+fn tracks_ok(w: &Watch) -> bool
+    ensures long { length w.now.tracks ≡ room }
+    ensures fine { result ≡ tracks_fine w.now.depth w.now.watched w.now.tracks }
 {
-    let mut i = 0;
-    while i < ROOM {
-        let t = tracks[i];
-        if !track_ok(t, i < n, depth) {
+    for (i, t) in w.tracks.iter().enumerate() {
+        if !track_ok(t, i < w.watched, w.depth) {
             return false;
         }
-        i += 1;
     }
-    n <= ROOM
+    w.watched <= ROOM
 }
 
-// The place of the first of n tracks that has the channel; n where none has, or as many as there are if n is more.
-pub fn place(tracks: [Track; ROOM], n: usize, channel: u16) -> usize
-    ensures { result ≡ place_of channel (take n tracks) }
+// The place of the first track that has the channel.
+pub fn place(tracks: &[Track], channel: u16) -> Option<usize>
+    ensures { result ≡ position (λ t. t.channel == channel) tracks.now }
 {
-    let mut i = 0;
-    while i < n {
-        if i == ROOM {
-            break;
-        }
-        let t = tracks[i];
-        if t.channel == channel {
-            break;
-        }
-        i += 1;
-    }
-    i
+    tracks.iter().position(|t| t.channel == channel)
 }
 
-// The channels of the first n tracks differ.
-fn apart(tracks: [Track; ROOM], n: usize) -> bool
-    requires { n ≤ room }
-    ensures { result ≡ distinct (channels_of (take n tracks)) }
+// The channels of the tracks differ.
+fn apart(tracks: &[Track]) -> bool
+    ensures { result ≡ distinct (channels_of tracks.now) }
 {
-    let mut i = 0;
-    while i < n {
-        let t = tracks[i];
-        if place(tracks, i, t.channel) < i {
+    for (i, t) in tracks.iter().enumerate() {
+        if place(&tracks[..i], t.channel).is_some() {
             return false;
         }
-        i += 1;
     }
     true
 }
@@ -142,40 +99,80 @@ fn apart(tracks: [Track; ROOM], n: usize) -> bool
 pub fn depth_in_range(depth: usize) -> bool
     ensures { result ≡ depth_in_range depth }
 {
-    (DEPTH_LOWEST <= depth) & (depth <= DEPTH_HIGHEST)
+    (DEPTH_LOWEST..=DEPTH_HIGHEST).contains(&depth)
 }
 
-// A depth is in its range where n tracks are in use, and 0 where none is.
-fn depth_ok(n: usize, depth: usize) -> bool
-    ensures { result ≡ depth_fine n depth }
+// A depth is in its range where tracks are in use, and 0 where none is.
+fn depth_ok(watched: usize, depth: usize) -> bool
+    ensures { result ≡ depth_fine watched depth }
 {
-    if n == 0 {
-        return depth == 0;
+    if watched == 0 {
+        depth == 0
+    } else {
+        depth_in_range(depth)
     }
-    depth_in_range(depth)
 }
 
-pub fn well_formed(w: Watch) -> bool
-    ensures { result ≡ well_formed w }
+// The tracks in use, as many as are watched.
+fn used(w: &Watch) -> &[Track]
+    ensures { result.now ≡ take w.now.watched w.now.tracks }
 {
-    let n = w.watched;
-    let tracks = w.tracks;
-    let depth = w.depth;
-    if !depth_ok(n, depth) {
-        return false;
+    w.tracks.get(..w.watched).unwrap_or(&w.tracks)
+}
+
+pub fn well_formed(w: &Watch) -> bool
+    ensures { result ≡ well_formed w.now }
+{
+    depth_ok(w.watched, w.depth) && tracks_ok(w) && apart(used(w))
+}
+
+// A watch that passed the test, for the calls to go on with.
+#[derive(Clone, Copy)]
+pub struct Sound<'a> {
+    pub watch: &'a Watch,
+    pub ghost formed: { well_formed watch.now ≡ true },
+}
+
+impl<'a> Sound<'a> {
+    // The watch where it is well formed, or refusal 9.
+    pub fn of(watch: &'a Watch) -> Result<Sound<'a>, Refusal>
+        ensures { MatchResult result (λ s. (s.watch.now ≡ watch.now) × (well_formed watch.now ≡ true)) (λ why. (why ≡ Refusal.RecordNotWellFormed) × (well_formed watch.now ≡ false)) }
+    {
+        if well_formed(watch) {
+            Ok(Sound { watch })
+        } else {
+            Err(Refusal::RecordNotWellFormed)
+        }
     }
-    if !tracks_ok(tracks, n, depth) {
-        return false;
+
+    // The tracks in use: the serving channel's, and those of its list.
+    pub fn tracks(&self) -> &'a [Track]
+        ensures { result.now ≡ take self.now.watch.now.watched self.now.watch.now.tracks }
+    {
+        used(self.watch)
     }
-    apart(tracks, n)
+
+    // The place of a channel's track, where it is under watch.
+    pub fn place(&self, channel: u16) -> Option<usize>
+        ensures { result ≡ position (λ t. t.channel == channel) (take self.now.watch.now.watched self.now.watch.now.tracks) }
+    {
+        place(self.tracks(), channel)
+    }
 }
 
 // Whether a watch is well formed: accepted, or refusal 9.
-pub fn check(w: Watch) -> Handed
+pub fn check(w: Watch) -> Handed<Watch, Answer>
     ensures { told_handed result ≡ tested w }
 {
-    if !well_formed(w) {
-        return refused(w, Refusal::RecordNotWellFormed);
+    Handed {
+        state: w,
+        answer: checked(&w),
     }
-    answered(w, Answer::Accepted)
+}
+
+fn checked(w: &Watch) -> Result<Answer, Refusal>
+    ensures { back w.now (told_answer result) ≡ tested w.now }
+{
+    Sound::of(w)?;
+    Ok(Answer::Accepted)
 }

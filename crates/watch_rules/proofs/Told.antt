@@ -1,7 +1,5 @@
 -- What is told of an answer is what its name says, and fixes it: there is a way back.
 use Rattle.std.proofs.Common.{◌≡◌, refl}
-use Rattle.std.specs.Prelude.{Result}
-use Rattle.refusal.specs.declared.Refusal.{Refusal}
 use Rattle.refusal.specs.declared.Handed.{Handed}
 use Rattle.refusal.proofs.OneToOne.{by_way_back, told_as_differs, answer_of, answer_back}
 use Rattle.watch_rules.specs.declared.Watch.{Watch}

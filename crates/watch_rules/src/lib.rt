@@ -22,6 +22,7 @@ pub const CAPACITY: usize = 32;
 pub const ROOM: usize = LIST_LIMIT + 1;
 
 // A channel under watch with its levels in hundredths, oldest first: 16 bits hold their range. What lies beyond `count` is 0.
+// The C interface has this layout, so the levels stay a buffer with their count beside it.
 #[repr(C)]
 #[derive(Clone, Copy, PartialEq, Eq)]
 pub struct Track {
@@ -31,7 +32,7 @@ pub struct Track {
 }
 
 // The first `watched` tracks are in use: the serving channel, then its list in the network's order. The others are all zero. An idle
-// watch uses none, and its depth is 0.
+// watch uses none, and its depth is 0. The C interface has this layout, so the tracks stay a buffer with their number beside it.
 #[repr(C)]
 #[derive(Clone, Copy, PartialEq, Eq)]
 pub struct Watch {

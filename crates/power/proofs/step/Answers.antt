@@ -1,37 +1,20 @@
--- Each end of the step is one of the four laws of `Steps`; what the tests say is brought there from the contracts of the functions that make them.
-use Rattle.std.proofs.Common.{sym, ap, ◌∙◌, ◌&&◌}
-use mir.Syntax.{w32}
-use mir.ValLaws.{to_z-of_z}
-use Rattle.power.specs.Code.{quality_of}
-use Rattle.power_rules.proofs.Whole.{both}
-use Rattle.power_rules.proofs.Ranges.{usable, formed}
-use Rattle.power_rules.proofs.Rules.{above_small}
-use Rattle.power_rules.proofs.Steps.{refuse_9, refuse_7, refuse_1, accept}
-use Rattle.power.proofs.Qualities.{was_inside, was_outside}
+-- What passed is what was given, so the codes and the record are the definition's.
+use Rattle.std.proofs.Common.{◌≡◌, ap, w32, pos}
+use Rattle.std.proofs.lemmas.Int.{to_z-of_z}
+use Rattle.refusal.specs.Told.{gives}
+use Rattle.power_rules.specs.PowerSteps.{record_after, par_to_send, pan_to_send}
+use Rattle.power_rules.specs.Calls.{stepped, sending}
 use Rattle.power.proofs.step.Goals as goal
 
-pub returns-then-not-well_formed : goal.returns-then-not-well_formed
-returns-then-not-well_formed c = refuse_9 _ _ _ _ _ c.refused.ensures (sym c.if-not-well_formed.ensures)
-
-pub returns-then-not-usable : goal.returns-then-not-usable
-returns-then-not-usable c =
-    refuse_7 _ _ _ _ _ c.refused-then-not-usable.ensures (sym c.if-not-well_formed.ensures)
-    ((λ i. sym c.parameters_in_range.ensures i && sym c.codes_in_range.ensures i) ∙ c.if-not-usable.true)
-
-pub send-requires : goal.send-requires
-send-requires c =
-    let e = (λ i. sym c.parameters_in_range.ensures i && sym c.codes_in_range.ensures i) ∙ c.if-not-usable.false in
-    let q = was_inside c.args.sqi c.in-InRange.quality (sym (c.in-InRange.ensures ∙ ap quality_of (to_z-of_z w32 c.args.sqi c.ranges.sqi))) in
-    (usable _ (both _ _ e).0, formed _ (sym c.if-not-well_formed.ensures), rw q.1 (above_small c.args.sqi q.0))
-
-pub returns-in-OutOfRange : goal.returns-in-OutOfRange
-returns-in-OutOfRange c =
-    refuse_1 _ _ _ _ _ c.refused-in-OutOfRange.ensures (sym c.if-not-well_formed.ensures)
-    ((λ i. sym c.parameters_in_range.ensures i && sym c.codes_in_range.ensures i) ∙ c.if-not-usable.false)
-    (was_outside c.args.sqi (sym (c.in-OutOfRange.ensures ∙ ap quality_of (to_z-of_z w32 c.args.sqi c.ranges.sqi))))
-
-pub returns-in-InRange : goal.returns-in-InRange
-returns-in-InRange c =
-    let q = was_inside c.args.sqi c.in-InRange.quality (sym (c.in-InRange.ensures ∙ ap quality_of (to_z-of_z w32 c.args.sqi c.ranges.sqi))) in
-    accept _ _ _ _ _ _ c.send.ensures q.1 (sym c.if-not-well_formed.ensures)
-    ((λ i. sym c.parameters_in_range.ensures i && sym c.codes_in_range.ensures i) ∙ c.if-not-usable.false) q.0
+pub returns-in-Ok : goal.returns-in-Ok
+unfolding sending
+returns-in-Ok c =
+    let a = c.args in
+    let q = to_z-of_z w32 a.sqi c.ranges.sqi in
+    let e : stepped a.p a.r a.d a.sqi ≡ record { power = record_after a.p a.r a.d; answer = gives (sending a.p a.r a.d a.sqi) } =
+    rw q at c.in-Ok.ensures.accepted in
+    let s = c.in-Ok.ensures.passed in
+    let after : c.record_after-state.result ≡ record_after a.p a.r a.d = cc (s.0, s.1, s.2, c.record_after-state.ensures.after) in
+    let par : pos c.par-par.result ≡ par_to_send a.p (record_after a.p a.r a.d).panlast a.sqi = cc (s.0, s.3, q, ap (λ r. r.panlast) after, c.par-par.ensures) in
+    let pan : pos c.pan-pan.result ≡ pan_to_send a.p (record_after a.p a.r a.d) = cc (s.0, after, c.pan-pan.ensures) in
+    rw e (after, λ i. gives (record { par = par i; pan = pan i }))

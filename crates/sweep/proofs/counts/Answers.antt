@@ -1,16 +1,12 @@
--- `counts` meets its contract: in a well formed record the answer is the ones of each map.
-use Rattle.std.proofs.Common.{ℕ, refl, sym, ap₂, ◌∙◌}
-use Rattle.refusal.specs.Told.{gives}
-use Rattle.refusal.proofs.Provided.{refuse_now, refuse_later}
+-- `counts` meets its contract: refusal 9, or the ones of each map.
+use Rattle.std.proofs.Common.{rules}
 use Rattle.sweep_rules.specs.Counts.{counts_of, counts_told}
+use Rattle.sweep_rules.specs.Told.{counts_of_answer}
+use Rattle.sweep.proofs.ReadCalls.{read_of}
 use Rattle.sweep.proofs.counts.Goals as goal
-
-pub returns-then-not-well_formed-clause-answer : goal.returns-then-not-well_formed-clause-answer
-unfolding counts_told
-returns-then-not-well_formed-clause-answer c = sym (refuse_now _ _ (sym c.if-not-well_formed.ensures))
 
 pub returns-clause-answer : goal.returns-clause-answer
 unfolding counts_told counts_of
 returns-clause-answer c =
-    ap₂ (λ (v h : ℕ). gives (record { visited = v; heard = h })) c.ones-visited.ensures c.ones-heard.ensures
-    ∙ sym (refuse_later _ (sym c.if-not-well_formed.ensures) refl)
+    read_of counts_of_answer (counts_of c.args.sweep) c.args.sweep c.tested.result c.map-answer.result c.tested.ensures c.map-answer.ensures.cases
+    (λ u a p. search rules)

@@ -1,10 +1,10 @@
--- As far as the levels were looked through, the sum is their distance below the top in all, and at most the range's span for each.
-use Rattle.std.proofs.Common.{◌≡◌, ◌-◌, ◌*◌, ◌≤◌, take}
-use Rattle.watch.specs.Code.{all_below, level_span}
+-- As far as the levels were looked through, this is their sum, and no larger than that many levels of 16 bits can make it.
+use Rattle.std.proofs.Common.{◌≡◌, ◌*◌, take, pos, neg_ℤ, ◌≤ℤ◌}
+use Rattle.watch_rules.specs.Lists.{sum}
 use Rattle.watch.proofs.total.Given as goal
 
-abbrev pub invariant-loop-j : goal.invariant-loop-j
-invariant-loop-j l = (l.j ≤ l.n) × (l.sum ≡ all_below (take l.j l.t.levels)) × (l.sum ≤ level_span * l.j)
-
-abbrev pub decreases-loop-j : goal.decreases-loop-j
-decreases-loop-j l = l.n - l.j
+abbrev pub invariant-loop-level : goal.invariant-loop-level
+invariant-loop-level l =
+    (l.sum ≡ sum (take l.level-index l.levels))
+    × (neg_ℤ (pos (32768 * l.level-index)) ≤ℤ l.sum)
+    × (l.sum ≤ℤ pos (32768 * l.level-index))

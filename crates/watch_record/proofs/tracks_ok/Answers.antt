@@ -6,31 +6,29 @@ use Rattle.watch_rules.specs.Record.{tracks_fine}
 use Rattle.watch_record.proofs.Scan.{one_place, at-end}
 use Rattle.watch_record.proofs.tracks_ok.Goals as goal
 
-pub returns-then-not-track_ok : goal.returns-then-not-track_ok
-returns-then-not-track_ok c =
-    let a = c.args in
+pub returns-then-not-track_ok-clause-fine : goal.returns-then-not-track_ok-clause-fine
+returns-then-not-track_ok-clause-fine c =
+    let w = c.args.w.now in
     let i = c.loop-i.i in
-    let l : length a.tracks ≡ room = search rules in
-    let inside : i < length a.tracks = omega (arith, c.loop-i-test.true) in
-    sym (c.loop-i.invariant.1
-    ∙ one_place a.depth a.n i a.tracks inside
-    ∙ ap (λ (y : Bool). y && tracks_fine a.depth (a.n - (i + 1)) (drop (i + 1) a.tracks)) (sym c.track_ok.ensures ∙ c.if-not-track_ok.true))
+    let l : length w.tracks ≡ room = search rules in
+    let inside : i < length w.tracks = omega (arith, c.loop-i-test.true) in
+    sym (c.loop-i.invariant
+    ∙ one_place w.depth w.watched i w.tracks inside
+    ∙ ap (λ (y : Bool). y && tracks_fine w.depth (w.watched - (i + 1)) (drop (i + 1) w.tracks)) (sym c.track_ok.ensures ∙ c.if-not-track_ok.true))
 
 pub loop-i-preserved : goal.loop-i-preserved
 loop-i-preserved c =
-    let a = c.args in
+    let w = c.args.w.now in
     let i = c.loop-i.i in
-    let l : length a.tracks ≡ room = search rules in
-    let inside : i < length a.tracks = omega (arith, c.loop-i-test.true) in (
-      omega arith,
-      c.loop-i.invariant.1
-          ∙ one_place a.depth a.n i a.tracks inside
-          ∙ ap (λ (y : Bool). y && tracks_fine a.depth (a.n - (i + 1)) (drop (i + 1) a.tracks)) (sym c.track_ok.ensures ∙ c.if-not-track_ok.false),
-    )
+    let l : length w.tracks ≡ room = search rules in
+    let inside : i < length w.tracks = omega (arith, c.loop-i-test.true) in
+    c.loop-i.invariant
+    ∙ one_place w.depth w.watched i w.tracks inside
+    ∙ ap (λ (y : Bool). y && tracks_fine w.depth (w.watched - (i + 1)) (drop (i + 1) w.tracks)) (sym c.track_ok.ensures ∙ c.if-not-track_ok.false)
 
-pub returns : goal.returns
-returns c =
-    let a = c.args in
-    let l : length a.tracks ≡ room = search rules in
-    let e : c.loop-i.i ≡ room = omega (arith, c.loop-i.invariant.0, c.loop-i-test.false) in
-    sym (c.loop-i.invariant.1 ∙ at-end a.depth a.n c.loop-i.i a.tracks (omega arith) ∙ ap (leb a.n) e)
+pub returns-clause-fine : goal.returns-clause-fine
+returns-clause-fine c =
+    let w = c.args.w.now in
+    let l : length w.tracks ≡ room = search rules in
+    let e : c.loop-i.i ≡ room = search rules in
+    sym (c.loop-i.invariant ∙ at-end w.depth w.watched c.loop-i.i w.tracks (omega arith) ∙ ap (leb w.watched) e)

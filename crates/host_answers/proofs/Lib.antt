@@ -1,2 +1,0 @@
--- `Rest`: the answers of a watch that a conversion leaves over.
-mod Rest

@@ -1,0 +1,18 @@
+-- The code nearest to T, brought into 0 to 24,000 by the library's `clamp`.
+use Rattle.std.proofs.Common.{◌∙◌, ap, pos, w32, FitsSigned, rules}
+use Rattle.std.proofs.lemmas.Int.{to_z-of_z}
+use Rattle.std.specs.Int.{int_max, int_min}
+use Rattle.power_rules.specs.PowerSteps.{thousandths, par_to_send}
+use Rattle.power.proofs.Numbers.{nearest_is}
+use Rattle.power.proofs.Accepted.par.Goals as goal
+
+pub returns : goal.returns
+unfolding par_to_send
+returns c =
+    let a = c.args.self in
+    let t : FitsSigned w32 c.thousandths-t.result = search rules in
+    let held : FitsSigned w32 c.clamp-held.result = search rules in
+    rw (to_z-of_z w32 c.clamp-held.result held)
+    (nearest_is (thousandths a.p c.args.panuse a.sqi) c.clamp-held.result
+    (c.clamp-held.ensures.value ∙ ap (λ z. int_max (pos 0) (int_min z (pos 24000))) (to_z-of_z w32 c.thousandths-t.result t ∙ c.thousandths-t.ensures))
+    c.clamp-held.ensures.lower_bound)

@@ -1,2 +1,0 @@
--- What the private `quality_of` returns.
-pub mod Code

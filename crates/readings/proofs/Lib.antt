@@ -1,0 +1,2 @@
+-- What the proofs of the ranges share.
+pub mod Ends

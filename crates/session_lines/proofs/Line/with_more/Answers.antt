@@ -1,8 +1,0 @@
--- What is kept of it, by the law of `Growing`.
-use Rattle.std.proofs.Common.{ap, ◌∙◌}
-use Rattle.session_lines.specs.Lines.{kept_of}
-use Rattle.session_lines.proofs.Growing.{grown}
-use Rattle.session_lines.proofs.Line.with_more.Goals as goal
-
-pub returns : goal.returns
-returns c = ap kept_of c.push_fitting.ensures ∙ grown c.args.self.bytes.items c.args.more.now
