@@ -38,7 +38,8 @@ fn write_answers<'a>(rt: &impl Print, answers: &[u8]) -> Result<(), Failure<'a>>
     })
 }
 
-// Answers a block; the buffer of answers is written out each time that it is full.
+// Answers a block; the buffer of answers is written out each time that it is full. How much of the block a turn takes is what the session answers,
+// so that no iterator gives the turns.
 fn replay_block<'a>(
     rt: &impl Print,
     session: Session,
