@@ -9,8 +9,7 @@ use mathlib.Core.Logic.{◌⊎◌, inl, inr, ⊎_elim}
 use native.Mathlib.Nat.{not-suc-le-zero, eq-or-lt_of_le}
 use native.Mathlib.Numerals.{add-one}
 use native.Mathlib.Omega.{arith}
-use lib.ListN.{length, get_or, take}
-use lib.Seq.{length-take-le, get_or-take}
+use lib.ListN.{length, get_or}
 use lib.Dec.{leb, ltb}
 use borrow.Author.Tests.{ne_eqb, leb-true, leb-false, le-leb, lt-leb, ltb-true, ltb-false}
 use Rattle.sweep_rules.specs.Map.{channels}
@@ -44,18 +43,18 @@ module _ (ks : List ℕ) where
 
 -- ---- the scan: `best` is the least key from `from` on among the first i of the list, or none
 
-pub record Least (list : List ℕ) (count from best i : ℕ) : Type 0 where
+pub record Least (list : List ℕ) (from best i : ℕ) : Type 0 where
   pub low : (j : ℕ) → j < i → from ≤ get_or list j 0 → best ≤ get_or list j 0
-  pub is : (passed ≤ best) ⊎ ((j : ℕ) × (j < count) × (get_or list j 0 ≡ best) × (from ≤ best))
+  pub is : (passed ≤ best) ⊎ ((j : ℕ) × (j < length list) × (get_or list j 0 ≡ best) × (from ≤ best))
 
 one_more_lem : (j i : ℕ) → j < i + 1 → (j ≡ i) ⊎ (j < i)
 one_more_lem j i h = let g : j ≤ i = omega arith in eq-or-lt_of_le g
 
-pub least_start : (list : List ℕ) (count from : ℕ) → Least list count from passed 0
-least_start list count from = record { low = λ j h g. absurd (not-suc-le-zero h); is = inl (omega arith) }
+pub least_start : (list : List ℕ) (from : ℕ) → Least list from passed 0
+least_start list from = record { low = λ j h g. absurd (not-suc-le-zero h); is = inl (omega arith) }
 
-pub least_turn : {list : List ℕ} {count from best i : ℕ} → Least list count from best i → i < count → Least list count from (lesser_of from (get_or list i 0) best) (i + 1)
-least_turn {list} {count} {from} {best} {i} L h =
+pub least_turn : {list : List ℕ} {from best i : ℕ} → Least list from best i → i < length list → Least list from (lesser_of from (get_or list i 0) best) (i + 1)
+least_turn {list} {from} {best} {i} L h =
     let k = get_or list i 0 in
     ⊎_elim
     (λ (e : ltb k from ≡ true).
@@ -92,11 +91,8 @@ unfolding near_keys top_of beginning
 near_top m [] = refl
 near_top m (k ∷ ks) = refl
 
-module _ (list : List ℕ) (count m : ℕ) (o : List ℕ) where
-  -- the keys, and what is left of them in order from a number on
-  abbrev pub keys : List ℕ
-  keys = take count list
-
+module _ (keys : List ℕ) (m : ℕ) (o : List ℕ) where
+  -- what is left of the keys in order from a number on
   abbrev pub left_from : ℕ → List ℕ
   left_from = rest_from keys
 
@@ -123,60 +119,44 @@ module _ (list : List ℕ) (count m : ℕ) (o : List ℕ) where
     pub small : k < passed
     pub rest : left_from from ≡ k ∷ left_from (suc k)
 
-module _ {list : List ℕ} {count m : ℕ} {o : List ℕ} (W : Walkable list count m o) where
-  abbrev ks : List ℕ
-  ks = keys list count m o
-
-  keys_long : length ks ≡ count
-  keys_long = length-take-le count list (let a = W.long in let b = W.few in omega arith)
-
-  key_at : (i : ℕ) → i < count → get_or ks i 0 ≡ get_or list i 0
-  key_at i h = get_or-take count list i 0 h
-
-  -- of each key, by its place in the list
-  each : (P : ℕ → Type 0) → ((i : ℕ) → i < count → P (get_or list i 0)) → All P ks
-  each P f = at_all P ks (λ i h. let l = keys_long in let g : i < count = omega arith in subst P (sym (key_at i g)) (f i g))
-
-  pub small_at : (i : ℕ) → i < count → (get_or list i 0 % key_step < channels) × (get_or list i 0 < passed)
-  small_at i h = let l = keys_long in
-      subst (λ (k : ℕ). (k % key_step < channels) × (k < passed)) (key_at i h)
-      (all-at (λ k. (k % key_step < channels) × (k < passed)) ks W.keyed.small i (omega arith))
+module _ {ks : List ℕ} {m : ℕ} {o : List ℕ} (W : Walkable ks m o) where
+  pub small_at : (i : ℕ) → i < length ks → (get_or ks i 0 % key_step < channels) × (get_or ks i 0 < passed)
+  small_at i h = all-at (λ k. (k % key_step < channels) × (k < passed)) ks W.keyed.small i h
 
   -- the scan is at its end: nothing is left, or the next key is found
-  least_none : {from best i : ℕ} → Least list count from best i → i ≡ count → passed ≤ best → left_from list count m o from ≡ []
-  least_none {from} {best} {i} L e q = rest_none ks from (each (λ k. k < from) (λ j h.
+  least_none : {from best i : ℕ} → Least ks from best i → i ≡ length ks → passed ≤ best → left_from ks m o from ≡ []
+  least_none {from} {best} {i} L e q = rest_none ks from (at_all (λ k. k < from) ks (λ j h.
       let s = (small_at j h).1 in
       ⊎_elim
-      (λ (t : leb from (get_or list j 0) ≡ true). let b = L.low j (omega arith) (leb-true from (get_or list j 0) t) in absurd (not-suc-le-zero {n = 0} (omega arith)))
-      (λ (t : leb from (get_or list j 0) ≡ false). leb-false from (get_or list j 0) t)
-      (which (leb from (get_or list j 0)))))
+      (λ (t : leb from (get_or ks j 0) ≡ true). let b = L.low j (omega arith) (leb-true from (get_or ks j 0) t) in absurd (not-suc-le-zero {n = 0} (omega arith)))
+      (λ (t : leb from (get_or ks j 0) ≡ false). leb-false from (get_or ks j 0) t)
+      (which (leb from (get_or ks j 0)))))
 
-  pub least_next : {from best i : ℕ} → Least list count from best i → i ≡ count → best < passed → NextKey list count m o from best
+  pub least_next : {from best i : ℕ} → Least ks from best i → i ≡ length ks → best < passed → NextKey ks m o from best
   least_next {from} {best} {i} L e q = ⊎_elim
       (λ (z : passed ≤ best). absurd (not-suc-le-zero {n = 0} (omega arith)))
-      (λ (w : (j : ℕ) × (j < count) × (get_or list j 0 ≡ best) × (from ≤ best)).
+      (λ (w : (j : ℕ) × (j < length ks) × (get_or ks j 0 ≡ best) × (from ≤ best)).
       let s = subst (λ (k : ℕ). (k % key_step < channels) × (k < passed)) w.2 (small_at w.0 w.1) in
-      let l = keys_long in
       record {
         channel = s.0;
         small = s.1;
         rest = rest_next ks W.keyed from best
-            (Memᴰ.cast (sym (key_at w.0 w.1 ∙ w.2)) (mem_at ks w.0 (omega (arith, w.1))))
+            (Memᴰ.cast (sym w.2) (mem_at ks w.0 w.1))
             w.3
-            (each (λ j. from ≤ j → best ≤ j) (λ j h g. L.low j (omega arith) g));
+            (at_all (λ j. from ≤ j → best ≤ j) ks (λ j h g. L.low j (omega arith) g));
       })
       L.is
 
-  pub walked_start : Walked list count m o 0 0 0
+  pub walked_start : Walked ks m o 0 0 0
   unfolding from_here is_near top walked
   walked_start = record {
-    room = let a = rest_length ks 0 in let b = keys_long in omega (arith, W.few);
+    room = let a = rest_length ks 0 in omega (arith, W.few);
     start = λ e. refl;
     tops = λ n. absurd (n refl);
-    same = ap (λ (l : List ℕ). walk_over (outcome_at o) (beginning (is_near list count m o) l) 0) (rest_start ks) ∙ sym (ap (λ (l : List ℕ). walk_over (outcome_at o) l 0) (near_top m (in_order ks)));
+    same = ap (λ (l : List ℕ). walk_over (outcome_at o) (beginning (is_near ks m o) l) 0) (rest_start ks) ∙ sym (ap (λ (l : List ℕ). walk_over (outcome_at o) l 0) (near_top m (in_order ks)));
   }
 
-  pub top_small : top list count m o ≤ passed / key_step
+  pub top_small : top ks m o ≤ passed / key_step
   unfolding top top_of
   top_small = by (in_order ks) (all_sort ltb (λ k. (k % key_step < channels) × (k < passed)) ks W.keyed.small)
     where
@@ -185,33 +165,33 @@ module _ {list : List ℕ} {count m : ℕ} {o : List ℕ} (W : Walkable list cou
       by (k ∷ js) a = omega (arith, a.0.1)
 
   -- nothing is left
-  pub says_end : {from strongest tried best i : ℕ} → Walked list count m o from strongest tried → Least list count from best i → i ≡ count → passed ≤ best → no_beam tried ≡ walked ks m o
+  pub says_end : {from strongest tried best i : ℕ} → Walked ks m o from strongest tried → Least ks from best i → i ≡ length ks → passed ≤ best → no_beam tried ≡ walked ks m o
   unfolding from_here beginning walk_over
-  says_end {from} {tried = tried} D L e q = sym (ap (λ (l : List ℕ). walk_over (outcome_at o) (beginning (is_near list count m o) l) tried) (least_none L e q)) ∙ D.same
+  says_end {from} {tried = tried} D L e q = sym (ap (λ (l : List ℕ). walk_over (outcome_at o) (beginning (is_near ks m o) l) tried) (least_none L e q)) ∙ D.same
 
   -- a turn: the next key k
-  module _ {from strongest tried k : ℕ} (D : Walked list count m o from strongest tried) (N : NextKey list count m o from k) where
+  module _ {from strongest tried k : ℕ} (D : Walked ks m o from strongest tried) (N : NextKey ks m o from k) where
     -- the first key found is the strongest
-    pub first_top : tried ≡ 0 → k / key_step ≡ top list count m o
+    pub first_top : tried ≡ 0 → k / key_step ≡ top ks m o
     unfolding top top_of
-    first_top e = ap top_of (sym N.rest ∙ ap (left_from list count m o) (D.start e) ∙ rest_start ks)
+    first_top e = ap top_of (sym N.rest ∙ ap (left_from ks m o) (D.start e) ∙ rest_start ks)
 
-    pub less : length (left_from list count m o (k + 1)) < length (left_from list count m o from)
-    less = let e = ap length N.rest in let f = ap (λ (x : ℕ). length (left_from list count m o x)) (add-one k) in omega arith
+    pub less : length (left_from ks m o (k + 1)) < length (left_from ks m o from)
+    less = let e = ap length N.rest in let f = ap (λ (x : ℕ). length (left_from ks m o x)) (add-one k) in omega arith
 
     -- with the strongest as it is now
-    module _ {now : ℕ} (t : now ≡ top list count m o) where
-      far : now + m < k / key_step → is_near list count m o k ≡ false
+    module _ {now : ℕ} (t : now ≡ top ks m o) where
+      far : now + m < k / key_step → is_near ks m o k ≡ false
       unfolding is_near
-      far h = lt-leb (k / key_step) (top list count m o + m) (omega arith)
+      far h = lt-leb (k / key_step) (top ks m o + m) (omega arith)
 
-      near : k / key_step ≤ now + m → is_near list count m o k ≡ true
+      near : k / key_step ≤ now + m → is_near ks m o k ≡ true
       unfolding is_near
-      near h = le-leb (k / key_step) (top list count m o + m) (omega arith)
+      near h = le-leb (k / key_step) (top ks m o + m) (omega arith)
 
-      here : from_here list count m o from tried ≡ walk_over (outcome_at o) (cond (is_near list count m o k) (k ∷ beginning (is_near list count m o) (left_from list count m o (suc k))) []) tried
+      here : from_here ks m o from tried ≡ walk_over (outcome_at o) (cond (is_near ks m o k) (k ∷ beginning (is_near ks m o) (left_from ks m o (suc k))) []) tried
       unfolding from_here beginning
-      here = ap (λ (l : List ℕ). walk_over (outcome_at o) (beginning (is_near list count m o) l) tried) N.rest
+      here = ap (λ (l : List ℕ). walk_over (outcome_at o) (beginning (is_near ks m o) l) tried) N.rest
 
       pub says_far : now + m < k / key_step → no_beam tried ≡ walked ks m o
       unfolding walk_over
@@ -225,13 +205,13 @@ module _ {list : List ℕ} {count m : ℕ} {o : List ℕ} (W : Walkable list cou
       unfolding walk_over
       says_camp h q = ap (camp (k % key_step)) (add-one tried) ∙ sym (here ∙ rw (near h, q)) ∙ D.same
 
-      pub walked_on : k / key_step ≤ now + m → (outcome_at o (k % key_step) ≡ not_read → ⊥) → (outcome_at o (k % key_step) ≡ suitable → ⊥) → Walked list count m o (k + 1) now (tried + 1)
+      pub walked_on : k / key_step ≤ now + m → (outcome_at o (k % key_step) ≡ not_read → ⊥) → (outcome_at o (k % key_step) ≡ suitable → ⊥) → Walked ks m o (k + 1) now (tried + 1)
       unfolding walk_over from_here
       walked_on h p q = record {
         room = let l = less in let r = D.room in omega arith;
         start = λ e. absurd (not-suc-le-zero {n = 0} (omega arith));
         tops = λ e. t;
         same =
-            ap (from_here list count m o (k + 1)) (add-one tried) ∙ ap (λ (x : ℕ). from_here list count m o x (suc tried)) (add-one k)
+            ap (from_here ks m o (k + 1)) (add-one tried) ∙ ap (λ (x : ℕ). from_here ks m o x (suc tried)) (add-one k)
             ∙ sym (here ∙ rw (near h, ne_eqb (outcome_at o (k % key_step)) not_read p, ne_eqb (outcome_at o (k % key_step)) suitable q)) ∙ D.same;
       }

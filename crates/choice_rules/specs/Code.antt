@@ -1,6 +1,6 @@
 -- What the private functions of the choice return: the search order by one number for each channel, its key. No reader of the public contract
 -- needs this file; `proofs/KeyOrder.antt` shows that the keys give the search order of `Order.antt`.
-use Rattle.std.specs.Prelude.{ℕ, suc, ◌+◌, ◌*◌, ◌/◌, ◌%◌, ◌<◌, ◌≤◌, min, ◌≡◌, cond, List, [], ◌∷◌, map, length, take, ℤ, nat_abs, ◌-ℤ◌, eqb, leb, ltb}
+use Rattle.std.specs.Prelude.{ℕ, suc, ◌+◌, ◌*◌, ◌/◌, ◌%◌, ◌<◌, ◌≤◌, min, ◌≡◌, cond, List, [], ◌∷◌, map, length, ℤ, nat_abs, ◌-ℤ◌, eqb, leb, ltb}
 use Rattle.readings_rules.specs.Ranges.{level_highest}
 use Rattle.sweep_rules.specs.Map.{channels}
 use Rattle.choice_rules.specs.Order.{beginning, sort_by}
@@ -62,16 +62,9 @@ walk_over outcome (k ∷ ks) n =
 unfoldable pub walked : List ℕ → ℕ → List ℕ → Chosen
 walked ks m o = walk_over (outcome_at o) (near_keys m (sort_by ltb ks)) 0
 
--- the list that `heard_keys` makes: these keys are its first `count`
-pub record Listed (list : List ℕ) (count : ℕ) (ks : List ℕ) : Type 0 where
-  pub long : length list ≡ channels
-  pub few : count ≤ channels
-  pub are : take count list ≡ ks
-
--- what the walk asks of the list, the margin and the string
-pub record Walkable (list : List ℕ) (count margin : ℕ) (outcomes : List ℕ) : Type 0 where
-  pub long : length list ≡ channels
-  pub few : count ≤ channels
-  pub keyed : Keyed (take count list)
+-- what the walk asks of the keys, the margin and the string
+pub record Walkable (keys : List ℕ) (margin : ℕ) (outcomes : List ℕ) : Type 0 where
+  pub few : length keys ≤ channels
+  pub keyed : Keyed keys
   pub small : margin ≤ nat_abs margin_highest
   pub string : length outcomes ≡ channels

@@ -218,12 +218,19 @@ pub fn file(mut sweep: Sweep, channel: u16, burst: Burst) -> Handed<Sweep, ()>
     }
 }
 
-// The lowest channel not visited, or done. Refusal 9 alone.
+// The lowest channel not visited, or done, of a lent record. Refusal 9 alone.
+pub fn next_channel(sweep: &Sweep) -> Result<Option<u16>, Refusal>
+    ensures { told_next result ≡ next_told sweep.now }
+{
+    tested(sweep).map(|()| lowest_clear(&sweep.visited))
+}
+
+// The same of a record that goes by value and comes back.
 pub fn next(sweep: Sweep) -> Handed<Sweep, Option<u16>>
     ensures sweep { result.state ≡ sweep }
     ensures answer { told_next result.answer ≡ next_told sweep }
 {
-    let answer = tested(&sweep).map(|()| lowest_clear(&sweep.visited));
+    let answer = next_channel(&sweep);
     Handed {
         state: sweep,
         answer,

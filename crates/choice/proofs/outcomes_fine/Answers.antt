@@ -21,24 +21,24 @@ returns-then-outcomes-ne-CHANNELS c =
     let o = c.args.outcomes.now in
     sym (ap (λ (b : Bool). b && fine_to o channels) (ne_eqb (length o) channels c.if-outcomes-ne-CHANNELS.true))
 
-pub loop-c-init : goal.loop-c-init
+pub loop-outcome-init : goal.loop-outcome-init
 unfolding all_below
-loop-c-init c = record { within = omega arith; long = c.if-outcomes-ne-CHANNELS.false; is = refl }
+loop-outcome-init c = record { long = c.if-outcomes-ne-CHANNELS.false; is = refl }
 
-pub loop-c-preserved : goal.loop-c-preserved
-loop-c-preserved c =
+pub loop-outcome-preserved : goal.loop-outcome-preserved
+loop-outcome-preserved c =
     let o = c.args.outcomes.now in
-    let k = c.loop-c.c in
+    let k = c.loop-outcome.outcome-index in
     record {
-      within = omega arith;
-      long = c.loop-c.invariant.long;
-      is = ap (λ (b : Bool). b && leb (outcome_at o k) highest_outcome) c.loop-c.invariant.is ∙ sym (fine_step o k);
+      long = c.loop-outcome.invariant.long;
+      is = ap (λ (b : Bool). b && leb (outcome_at o k) highest_outcome) c.loop-outcome.invariant.is ∙ sym (fine_step o k);
     }
 
 pub returns : goal.returns
 unfolding outcomes_fine
 returns c =
     let o = c.args.outcomes.now in
-    let e : c.loop-c.c ≡ channels = omega arith in
-    let i = c.loop-c.invariant in
+    let i = c.loop-outcome.invariant in
+    let l = i.long in
+    let e : c.loop-outcome.outcome-index ≡ channels = omega arith in
     i.is ∙ ap (fine_to o) e ∙ sym (ap (λ (b : Bool). b && fine_to o channels) (eq-eqb (length o) channels i.long))

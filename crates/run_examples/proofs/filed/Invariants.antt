@@ -1,9 +1,0 @@
--- The loop counts to `times`.
-use Rattle.std.proofs.Common.{◌-◌, ◌≤◌}
-use Rattle.run_examples.proofs.filed.Given as goal
-
-abbrev pub invariant-loop-i : goal.invariant-loop-i
-invariant-loop-i l = l.i ≤ l.times
-
-abbrev pub decreases-loop-i : goal.decreases-loop-i
-decreases-loop-i l = l.times - l.i
