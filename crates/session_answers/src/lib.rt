@@ -21,6 +21,13 @@ use session_texts::Text;
 use sweep_rules::Numbers;
 use watch_rules::Answer;
 
+// What a line of the file does: the record that it leaves, and the text that it writes.
+#[derive(Drop)]
+pub struct Answered<R> {
+    pub state: R,
+    pub text: Text,
+}
+
 // The numbers of a template with `A` alone, with `A` and `B`, and with `Z` alone.
 fn one(a: u64) -> Letters
     ensures { result ≡ record { a = a; b = 0; z = pos 0 } }
