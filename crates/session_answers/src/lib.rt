@@ -1,7 +1,7 @@
 // Each answer of the library as the line that a session file's answers are written as, with its newline.
 #![tactic(auto)]
 
-ghost use Rattle.std.specs.Prelude.{◌≡◌, ◌<◌};
+ghost use Rattle.std.specs.Prelude.{◌≡◌, ◌<◌, pos};
 ghost use Rattle.refusal.specs.Number.{reason_of};
 ghost use Rattle.refusal.specs.Told.{told};
 ghost use Rattle.sweep_rules.specs.Told.{told_next, told_numbers};
@@ -16,35 +16,60 @@ ghost use Rattle.session_answers.specs.Lines.{outcome_line, hundredths_line, flo
 use choice_rules::Choice;
 use power_rules::Sent;
 use refusal::{Reason, Refusal};
-use session_templates::ended;
-use session_texts::{Text, nothing, with, with_bits};
+use session_templates::{Letters, NO_LETTERS, end_line};
+use session_texts::Text;
 use sweep_rules::Numbers;
 use watch_rules::Answer;
 
-// The whole line of a template. It finds room whatever the numbers are: none has more than 20 digits.
-fn whole_line(template: &[u8], a: u64, b: u64, z: i32) -> Text
-    requires { widest template.now < room }
-    ensures { said result ≡ line (filled template.now a b z) }
+// What a line of the file does: the record that it leaves, and the text that it writes.
+#[derive(Drop)]
+pub struct Answered<R> {
+    pub state: R,
+    pub text: Text,
+}
+
+// The numbers of a template with `A` alone, with `A` and `B`, and with `Z` alone.
+fn one(a: u64) -> Letters
+    ensures { result ≡ record { a = a; b = 0; z = pos 0 } }
 {
-    session_templates::filled(template, a, b, z)
+    Letters { a, ..NO_LETTERS }
+}
+
+fn two(a: u64, b: u64) -> Letters
+    ensures { result ≡ record { a = a; b = b; z = pos 0 } }
+{
+    Letters { a, b, ..NO_LETTERS }
+}
+
+fn signed(z: i32) -> Letters
+    ensures { result ≡ record { a = 0; b = 0; z = z } }
+{
+    Letters { z, ..NO_LETTERS }
+}
+
+// The whole line of a template. It finds room whatever the numbers are: none has more than 20 digits.
+#[tactic(auto, using(session_templates::proofs::Room::fits))]
+fn whole_line(template: &[u8], letters: Letters) -> Text
+    requires { widest template.now < room }
+    ensures { said result ≡ line (filled template.now letters.a letters.b letters.z) }
+{
+    session_templates::filled(template, letters)
 }
 
 fn accepted() -> Text
     ensures { said result ≡ line accepted_text }
 {
-    whole_line(b"accepted", 0, 0, 0)
+    whole_line(b"accepted", NO_LETTERS)
 }
 
 fn refused(why: Refusal) -> Text
     ensures { said result ≡ line (refused_text (reason_of why)) }
 {
     match why.told() {
-        Reason::Alone(number) => whole_line(b"refused A", u64::from(number), 0, 0),
+        Reason::Alone(number) => whole_line(b"refused A", one(u64::from(number))),
         Reason::At { number, place } => whole_line(
             b"refused A at B",
-            u64::from(number),
-            u64::from(place),
-            0,
+            two(u64::from(number), u64::from(place)),
         ),
     }
 }
@@ -52,7 +77,11 @@ fn refused(why: Refusal) -> Text
 fn float(x: f32) -> Text
     ensures { said result ≡ line (float_text x) }
 {
-    ended(with_bits(with(nothing(), b"float 0x"), x))
+    let mut text = Text::new();
+    text.push(b"float 0x");
+    text.push_bits(x);
+    end_line(&mut text);
+    text
 }
 
 // The answer of a call that gives no value.
@@ -72,7 +101,7 @@ pub fn of_hundredths(answer: Result<i32, Refusal>) -> Text
     ensures { said result ≡ hundredths_line (told answer) }
 {
     match answer {
-        Ok(hundredths) => whole_line(b"hundredths Z", 0, 0, hundredths),
+        Ok(hundredths) => whole_line(b"hundredths Z", signed(hundredths)),
         Err(why) => refused(why),
     }
 }
@@ -94,8 +123,8 @@ pub fn of_next(answer: Result<Option<u16>, Refusal>) -> Text
     ensures { said result ≡ next_line (told_next answer) }
 {
     match answer {
-        Ok(Some(channel)) => whole_line(b"next A", u64::from(channel), 0, 0),
-        Ok(None) => whole_line(b"done", 0, 0, 0),
+        Ok(Some(channel)) => whole_line(b"next A", one(u64::from(channel))),
+        Ok(None) => whole_line(b"done", NO_LETTERS),
         Err(why) => refused(why),
     }
 }
@@ -108,9 +137,7 @@ pub fn of_counts(answer: Result<Numbers, Refusal>) -> Text
     match answer {
         Ok(Numbers { visited, heard }) => whole_line(
             b"visited A heard B",
-            u64::from(visited),
-            u64::from(heard),
-            0,
+            two(u64::from(visited), u64::from(heard)),
         ),
         Err(why) => refused(why),
     }
@@ -124,17 +151,13 @@ pub fn of_choice(answer: Result<Choice, Refusal>) -> Text
     match answer {
         Ok(Choice::Camp { channel, tried }) => whole_line(
             b"camp A tried B",
-            u64::from(channel),
-            u64::from(tried),
-            0,
+            two(u64::from(channel), u64::from(tried)),
         ),
         Ok(Choice::Read { channel, tried }) => whole_line(
             b"read A tried B",
-            u64::from(channel),
-            u64::from(tried),
-            0,
+            two(u64::from(channel), u64::from(tried)),
         ),
-        Ok(Choice::NoBeam { tried }) => whole_line(b"no beam tried A", u64::from(tried), 0, 0),
+        Ok(Choice::NoBeam { tried }) => whole_line(b"no beam tried A", one(u64::from(tried))),
         Err(why) => refused(why),
     }
 }
@@ -148,13 +171,14 @@ pub fn of_watch(answer: Result<Answer, Refusal>) -> Text
         Ok(Answer::Accepted) => accepted(),
         Ok(Answer::Levels { count, mean }) => whole_line(
             b"count A mean Z",
-            u64::from(count),
-            0,
-            mean,
+            Letters {
+                z: mean,
+                ..one(u64::from(count))
+            },
         ),
-        Ok(Answer::Wait) => whole_line(b"wait", 0, 0, 0),
-        Ok(Answer::Stay) => whole_line(b"stay", 0, 0, 0),
-        Ok(Answer::MoveTo(channel)) => whole_line(b"move A", u64::from(channel), 0, 0),
+        Ok(Answer::Wait) => whole_line(b"wait", NO_LETTERS),
+        Ok(Answer::Stay) => whole_line(b"stay", NO_LETTERS),
+        Ok(Answer::MoveTo(channel)) => whole_line(b"move A", one(u64::from(channel))),
         Err(why) => refused(why),
     }
 }
@@ -165,7 +189,7 @@ pub fn of_power(answer: Result<Sent, Refusal>) -> Text
     ensures { said result ≡ power_line (power_told answer) }
 {
     match answer {
-        Ok(Sent { par, pan }) => whole_line(b"par A pan B", u64::from(par), u64::from(pan), 0),
+        Ok(Sent { par, pan }) => whole_line(b"par A pan B", two(u64::from(par), u64::from(pan))),
         Err(why) => refused(why),
     }
 }
@@ -174,5 +198,5 @@ pub fn of_power(answer: Result<Sent, Refusal>) -> Text
 pub fn of_error(line: u64) -> Text
     ensures { said result ≡ error_line line }
 {
-    whole_line(b"error line A", line, 0, 0)
+    whole_line(b"error line A", one(line))
 }

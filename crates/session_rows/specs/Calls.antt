@@ -14,7 +14,7 @@ use Rattle.session_answers.specs.Lines.{outcome_line, choice_line, watch_line, p
 use Rattle.session_texts.specs.Text.{said}
 use Rattle.session_state.specs.declared.State.{State}
 use Rattle.session_sweep.specs.Rows.{SweepWritten}
-use Rattle.session_rows.specs.declared.calls.Answered.{Answered}
+use Rattle.session_answers.specs.declared.Answered.{Answered}
 
 -- the state after a line, and the text that the line writes
 pub record Written : Type 0 where
@@ -22,7 +22,7 @@ pub record Written : Type 0 where
   pub text : List ℕ
 
 -- what the code answers for a line
-abbrev pub told_answered : Answered → Written
+abbrev pub told_answered : Answered State → Written
 told_answered r = record { state = r.state; text = said r.text }
 
 -- a text, with the state as it was

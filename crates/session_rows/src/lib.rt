@@ -6,7 +6,6 @@ ghost use Rattle.session_rows.specs.Claims.{OneRow};
 mod calls;
 mod rows;
 
-pub use calls::Answered;
 pub use rows::{ROWS, make, row_of};
 
 // Nothing to run: its contract is what is claimed of the table beyond the calls, so that the check asks for its proof.

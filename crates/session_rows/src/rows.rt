@@ -1,17 +1,16 @@
 // The rows of the table of calls, as a text, and what each row does.
-ghost use Rattle.std.specs.Prelude.{◌≡◌};
+ghost use Rattle.std.specs.Prelude.{◌≡◌, ◌<◌, unwrap_or, IfSome};
 ghost use Rattle.power_rules.specs.declared.Decoded.TheVariants.{Codes};
 ghost use Rattle.session_words.specs.Words.{words_of};
 ghost use Rattle.session_calls.specs.Table.{row_at};
 ghost use Rattle.session_texts.specs.Text.{said};
 ghost use Rattle.session_state.specs.declared.State.{State};
 ghost use Rattle.session_rows.specs.Calls.{told_answered, only, malformed};
-ghost use Rattle.session_rows.specs.Table.{choice_rows, power_rows, reading_rows, parameters_set, row_of, row_written};
+ghost use Rattle.session_rows.specs.Table.{choice_rows, power_rows, reading_rows, parameters_set, rows, row_of, row_written};
 
-use crate::calls::{Answered, choose, set_outcome, start_power, step_power};
+use crate::calls::{choose, set_outcome, start_power, step_power};
 use power::{Decoded, PowerParameters};
-use refusal::Outcome;
-use session_answers::{of_error, of_float, of_hundredths, of_outcome, of_watch};
+use session_answers::{Answered, of_error, of_float, of_hundredths, of_outcome, of_watch};
 use session_state::State;
 use session_sweep::{SWEEP_ROWS, sweep_row};
 use session_texts::Text;
@@ -54,14 +53,15 @@ const READING_ROWS: usize = 4;
 
 pub const ROWS: usize = WATCH_ROWS + SWEEP_ROWS + CHOICE_ROWS + POWER_ROWS + READING_ROWS;
 
-// The number of the row that a line has; where it has none, the number of rows.
-pub fn row_of(line: &[u8]) -> usize
-    ensures { result ≡ row_of (words_of line.now) }
+// The number of the row that a line has, if it has one.
+pub fn row_of(line: &[u8]) -> Option<usize>
+    ensures row { unwrap_or result rows ≡ row_of (words_of line.now) }
+    ensures few { IfSome result (λ k. k < rows) }
 {
     session_calls::row_of(&TABLE, line)
 }
 
-fn choice_row(state: State, number: u64, row: usize, line: &[u8]) -> Answered
+fn choice_row(state: State, number: u64, row: usize, line: &[u8]) -> Answered<State>
     ensures { told_answered result ≡ row_at choice_rows malformed row (words_of line.now) number state }
 {
     match row {
@@ -79,33 +79,31 @@ fn codes(pan: u8, par: u8) -> Decoded
     ensures { result ≡ Codes pan par }
 {
     Decoded::Codes {
-        pan: pan as u32,
-        par: par as u32,
+        pan: u32::from(pan),
+        par: u32::from(par),
     }
 }
 
 // `params SQT INIT MIN MAX UP DN STEP`, each a BYTE.
-fn set_parameters(state: State, line: &[u8]) -> Answered
+fn set_parameters(mut state: State, line: &[u8]) -> Answered<State>
     ensures { told_answered result ≡ parameters_set (words_of line.now) state }
 {
-    let parameters = PowerParameters {
-        sqt: byte_at(line, 1) as u32,
-        paninit: byte_at(line, 2) as u32,
-        panmin: byte_at(line, 3) as u32,
-        panmax: byte_at(line, 4) as u32,
-        gainup: byte_at(line, 5) as u32,
-        gaindn: byte_at(line, 6) as u32,
-        mestep: byte_at(line, 7) as u32,
+    state.parameters = PowerParameters {
+        sqt: u32::from(byte_at(line, 1)),
+        paninit: u32::from(byte_at(line, 2)),
+        panmin: u32::from(byte_at(line, 3)),
+        panmax: u32::from(byte_at(line, 4)),
+        gainup: u32::from(byte_at(line, 5)),
+        gaindn: u32::from(byte_at(line, 6)),
+        mestep: u32::from(byte_at(line, 7)),
     };
-    let mut next = state;
-    next.parameters = parameters;
     Answered {
-        state: next,
-        text: of_outcome(Outcome::Accepted),
+        state,
+        text: of_outcome(Ok(())),
     }
 }
 
-fn power_row(state: State, number: u64, row: usize, line: &[u8]) -> Answered
+fn power_row(state: State, number: u64, row: usize, line: &[u8]) -> Answered<State>
     ensures { told_answered result ≡ row_at power_rows malformed row (words_of line.now) number state }
 {
     match row {
@@ -138,28 +136,25 @@ fn reading_row(number: u64, row: usize, line: &[u8]) -> Text
 }
 
 // Makes the call of a row with the words of a line; the line is the one of this number in the file. Beyond the last row there is no call.
-pub fn make(state: State, number: u64, row: usize, line: &[u8]) -> Answered
+pub fn make(mut state: State, number: u64, row: usize, line: &[u8]) -> Answered<State>
     ensures { told_answered result ≡ row_written row number state (words_of line.now) }
 {
     if row < WATCH_ROWS {
         let handed = watch_row(state.watch, row, line);
-        let after = handed.watch;
-        let answer = handed.answer;
-        let mut next = state;
-        next.watch = after;
+        state.watch = handed.state;
         return Answered {
-            state: next,
-            text: of_watch(answer),
+            state,
+            text: of_watch(handed.answer),
         };
     }
     let row = row - WATCH_ROWS;
     if row < SWEEP_ROWS {
-        let handed = sweep_row(state.sweep, row, line);
-        let after = handed.sweep;
-        let text = handed.text;
-        let mut next = state;
-        next.sweep = after;
-        return Answered { state: next, text };
+        let answered = sweep_row(state.sweep, row, line);
+        state.sweep = answered.state;
+        return Answered {
+            state,
+            text: answered.text,
+        };
     }
     let row = row - SWEEP_ROWS;
     if row < CHOICE_ROWS {

@@ -1,6 +1,6 @@
 -- Session files, section Calls and what they write: the rows on the sweep, each with its text and what a line that has it does and writes: ws are
 -- the line's words, by their places from 0 on, and s the sweep before it.
-use Rattle.std.specs.Prelude.{ℕ, zero, suc, List, [], ◌∷◌}
+use Rattle.std.specs.Prelude.{ℕ, zero, suc, List, [], ◌∷◌, Float}
 use Rattle.refusal.specs.Told as refusal
 use Rattle.readings_rules.specs.declared.Burst.{Burst}
 use Rattle.readings_rules.specs.declared.Burst.TheVariants.{Missed}
@@ -13,7 +13,7 @@ use Rattle.session_texts.specs.Text.{said}
 use Rattle.session_answers.specs.Lines.{outcome_line, next_line, counts_line}
 use Rattle.session_values.specs.Values.{CH, heard}
 use Rattle.session_calls.specs.Table.{Row, ◌asks◌}
-use Rattle.session_sweep.specs.declared.SweepAnswered.{SweepAnswered}
+use Rattle.session_answers.specs.declared.Answered.{Answered}
 
 -- the sweep after a line, and the text that the line writes
 pub record SweepWritten : Type 0 where
@@ -21,8 +21,8 @@ pub record SweepWritten : Type 0 where
   pub text : List ℕ
 
 -- what the code answers for a line
-abbrev pub told_sweep_answered : SweepAnswered → SweepWritten
-told_sweep_answered r = record { sweep = r.sweep; text = said r.text }
+abbrev pub told_sweep_answered : Answered Sweep → SweepWritten
+told_sweep_answered r = record { sweep = r.state; text = said r.text }
 
 -- "missed" filed for each of n channels from c on: one that was visited is refused, and the record stays as it was
 unfoldable pub missed_from : ℕ → ℕ → Sweep → Sweep
@@ -30,7 +30,7 @@ missed_from zero c s = s
 missed_from (suc n) c s = missed_from n (suc c) (leaves s (filing s c Missed))
 
 -- a result filed in the sweep
-unfoldable pub filed : ℕ → Burst → Sweep → SweepWritten
+unfoldable pub filed : ℕ → Burst Float → Sweep → SweepWritten
 filed c b s = record { sweep = leaves s (filing s c b); text = outcome_line (refusal.acceptance (filing s c b)) }
 
 -- the next channel and the numbers of channels leave the sweep as it is

@@ -9,87 +9,65 @@ ghost use Rattle.session_calls.specs.Table.{row_at};
 ghost use Rattle.session_sweep.specs.Rows.{told_sweep_answered, missed_from, filed, next_asked, counts_asked, accepts, sweep_rows};
 
 use readings_rules::Burst;
-use refusal::Outcome;
-use session_answers::{of_counts, of_next, of_outcome};
-use session_texts::Text;
+use session_answers::{Answered, of_counts, of_next, of_outcome};
 use session_values::{channel_at, heard_at};
-use sweep_rules::Sweep;
+use sweep::{FIRST_SWEPT, LAST_SWEPT, Sweep};
 
 // The number of rows on the sweep.
 pub const SWEEP_ROWS: usize = 6;
 
-// The channels that the sweep visits.
-const FIRST_SWEPT: u16 = sweep::FIRST_SWEPT as u16;
-
-const LAST_SWEPT: u16 = sweep::LAST_SWEPT as u16;
-
-// A sweep after a line, with the text that the line writes.
-#[derive(Clone, Copy)]
-pub struct SweepAnswered {
-    pub sweep: Sweep,
-    pub text: Text,
-}
-
-fn file(sweep: Sweep, channel: u16, burst: Burst) -> SweepAnswered
+fn file(sweep: Sweep, channel: u16, burst: Burst) -> Answered<Sweep>
     ensures { told_sweep_answered result ≡ filed channel burst sweep }
 {
     let filed = sweep::file(sweep, channel, burst);
-    let after = filed.sweep;
-    let answer = filed.answer;
-    SweepAnswered {
-        sweep: after,
-        text: of_outcome(answer),
+    Answered {
+        state: filed.state,
+        text: of_outcome(filed.answer),
     }
 }
 
-fn next(sweep: Sweep) -> SweepAnswered
+fn next(sweep: Sweep) -> Answered<Sweep>
     ensures { told_sweep_answered result ≡ next_asked sweep }
 {
     let next = sweep::next(sweep);
-    let answer = next.answer;
-    SweepAnswered {
-        sweep,
-        text: of_next(answer),
+    Answered {
+        state: next.state,
+        text: of_next(next.answer),
     }
 }
 
-fn counts(sweep: Sweep) -> SweepAnswered
+fn counts(sweep: Sweep) -> Answered<Sweep>
     ensures { told_sweep_answered result ≡ counts_asked sweep }
 {
     let counts = sweep::counts(sweep);
-    let answer = counts.answer;
-    SweepAnswered {
-        sweep,
-        text: of_counts(answer),
+    Answered {
+        state: counts.state,
+        text: of_counts(counts.answer),
     }
 }
 
 // Accepted, with the sweep that follows.
-fn accepted(sweep: Sweep) -> SweepAnswered
+fn accepted(sweep: Sweep) -> Answered<Sweep>
     ensures { told_sweep_answered result ≡ accepts sweep }
 {
-    SweepAnswered {
-        sweep,
-        text: of_outcome(Outcome::Accepted),
+    Answered {
+        state: sweep,
+        text: of_outcome(Ok(())),
     }
 }
 
 // "Missed" filed for every channel that the sweep visits: it is refused where the channel was visited, and the record stays.
-fn rest_missed(sweep: Sweep) -> Sweep
+fn rest_missed(mut sweep: Sweep) -> Sweep
     ensures { result ≡ missed_from swept_channels first_swept sweep }
 {
-    let mut s = sweep;
-    let mut c = FIRST_SWEPT;
-    while c <= LAST_SWEPT {
-        let filed = sweep::file(s, c, Burst::Missed);
-        s = filed.sweep;
-        c += 1;
+    for channel in FIRST_SWEPT..=LAST_SWEPT {
+        sweep = sweep::file(sweep, channel as u16, Burst::Missed).state;
     }
-    s
+    sweep
 }
 
 // A call on the sweep, by its row. No row is beyond the last: there the next channel is asked for, which leaves the sweep as it is.
-pub fn sweep_row(sweep: Sweep, row: usize, line: &[u8]) -> SweepAnswered
+pub fn sweep_row(sweep: Sweep, row: usize, line: &[u8]) -> Answered<Sweep>
     ensures { told_sweep_answered result ≡ row_at sweep_rows next_asked row (words_of line.now) sweep }
 {
     match row {

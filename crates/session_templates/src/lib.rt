@@ -7,20 +7,16 @@ ghost use Rattle.session_templates.specs.Filled.{line, piece, filled};
 
 use session_texts::Text;
 
-// The letters of a template: two numbers, and one with a sign.
-const FIRST: u8 = b'A';
-
-const SECOND: u8 = b'B';
-
-const SIGNED: u8 = b'Z';
-
-// The numbers that the letters stand for.
+// What the letters `A`, `B` and `Z` of a template stand for. One that a template does not have is not written.
 #[derive(Clone, Copy)]
-pub struct Numbers {
-    pub first: u64,
-    pub second: u64,
-    pub signed: i32,
+pub struct Letters {
+    pub a: u64,
+    pub b: u64,
+    pub z: i32,
 }
+
+// For a template with no letter, and for those that are not named.
+pub const NO_LETTERS: Letters = Letters { a: 0, b: 0, z: 0 };
 
 // Adds a newline, if there is room.
 pub fn end_line(text: &mut Text)
@@ -30,24 +26,24 @@ pub fn end_line(text: &mut Text)
 }
 
 // Adds what a byte of a template stands for: a letter for its number, any other byte for itself.
-fn push_piece(text: &mut Text, letter: u8, numbers: Numbers)
-    ensures { said text.new ≡ take room (said text.old ++ piece numbers.first numbers.second numbers.signed letter) }
+fn push_piece(text: &mut Text, byte: u8, letters: Letters)
+    ensures { said text.new ≡ take room (said text.old ++ piece letters.a letters.b letters.z byte) }
 {
-    match letter {
-        FIRST => text.push_decimal(numbers.first),
-        SECOND => text.push_decimal(numbers.second),
-        SIGNED => text.push_signed(numbers.signed),
-        byte => text.push_byte(byte),
+    match byte {
+        b'A' => text.push_decimal(letters.a),
+        b'B' => text.push_decimal(letters.b),
+        b'Z' => text.push_signed(letters.z),
+        _ => text.push_byte(byte),
     }
 }
 
 // The line of a template, as far as there is room.
-pub fn filled(template: &[u8], numbers: Numbers) -> Text
-    ensures { said result ≡ take room (line (filled template.now numbers.first numbers.second numbers.signed)) }
+pub fn filled(template: &[u8], letters: Letters) -> Text
+    ensures { said result ≡ take room (line (filled template.now letters.a letters.b letters.z)) }
 {
     let mut text = Text::new();
-    for letter in template {
-        push_piece(&mut text, *letter, numbers);
+    for byte in template {
+        push_piece(&mut text, *byte, letters);
     }
     end_line(&mut text);
     text

@@ -6,4 +6,4 @@ use Rattle.session_sweep.proofs.counts.Goals as goal
 
 pub returns : goal.returns
 unfolding counts_asked
-returns c i = record { sweep = c.args.sweep; text = (c.of_counts.ensures ∙ ap counts_line c.counts-counts.ensures.answer) i }
+returns c i = record { sweep = c.counts-counts.ensures.sweep i; text = (c.of_counts.ensures ∙ ap counts_line c.counts-counts.ensures.answer) i }

@@ -6,4 +6,4 @@ use Rattle.session_sweep.proofs.next.Goals as goal
 
 pub returns : goal.returns
 unfolding next_asked
-returns c i = record { sweep = c.args.sweep; text = (c.of_next.ensures ∙ ap next_line c.next-next.ensures.answer) i }
+returns c i = record { sweep = c.next-next.ensures.sweep i; text = (c.of_next.ensures ∙ ap next_line c.next-next.ensures.answer) i }

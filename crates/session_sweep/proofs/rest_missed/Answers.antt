@@ -1,5 +1,5 @@
 -- `session_sweep::rest_missed` meets its contract: a turn files "missed" for one channel more.
-use Rattle.std.proofs.Common.{ℕ, suc, ◌≡◌, ◌+◌, ◌-◌, refl, sym, ap, ◌∙◌, arith, add-one}
+use Rattle.std.proofs.Common.{ℕ, suc, ◌≡◌, ◌+◌, ◌-◌, ◌≤◌, refl, sym, ap, ◌∙◌, arith, add-one}
 use Rattle.readings_rules.specs.declared.Burst.TheVariants.{Missed}
 use Rattle.sweep_rules.specs.declared.Sweep.{Sweep}
 use Rattle.sweep_rules.specs.Filing.{filing, leaves}
@@ -15,24 +15,21 @@ missed_one : (n c : ℕ) (s : Sweep) → missed_from (suc n) c s ≡ missed_from
 unfolding missed_from
 missed_one n c s = ap (λ k. missed_from n k (leaves s (filing s c Missed))) (sym (add-one c))
 
-pub loop-c-init : goal.loop-c-init
-loop-c-init c = (omega arith, omega arith, refl)
-
-pub loop-c-preserved : goal.loop-c-preserved
-loop-c-preserved c =
-    let at = c.loop-c in
-    let l = c.loop-c-test.true in
-    let n : last_swept + 1 - at.c ≡ suc (last_swept + 1 - (at.c + 1)) = omega (arith, l) in (
-      omega (arith, at.invariant.0),
-      omega (arith, l),
-      ap (missed_from (last_swept + 1 - (at.c + 1)) (at.c + 1)) c.file-filed.ensures.sweep
-          ∙ sym (missed_one (last_swept + 1 - (at.c + 1)) at.c at.s)
-          ∙ ap (λ k. missed_from k at.c at.s) (sym n)
-          ∙ at.invariant.2,
+pub loop-channel-preserved : goal.loop-channel-preserved
+loop-channel-preserved c =
+    let at = c.loop-channel in
+    let k = at.channel in
+    let below : k ≤ last_swept = omega (arith, c.loop-channel-test.true) in
+    let n : last_swept + 1 - k ≡ suc (last_swept + 1 - (k + 1)) = omega (arith, below) in (
+      omega (arith, below),
+      ap (missed_from (last_swept + 1 - (k + 1)) (k + 1)) c.file.ensures.sweep
+          ∙ sym (missed_one (last_swept + 1 - (k + 1)) k at.sweep)
+          ∙ ap (λ m. missed_from m k at.sweep) (sym n)
+          ∙ at.invariant.1,
     )
 
 pub returns : goal.returns
 returns c =
-    let at = c.loop-c in
-    let n : last_swept + 1 - at.c ≡ 0 = omega (arith, c.loop-c-test.false) in
-    sym (missed_none at.c at.s) ∙ ap (λ k. missed_from k at.c at.s) (sym n) ∙ at.invariant.2
+    let at = c.loop-channel in
+    let n : last_swept + 1 - at.channel ≡ 0 = omega (arith, c.loop-channel-test.false) in
+    sym (missed_none at.channel at.sweep) ∙ ap (λ k. missed_from k at.channel at.sweep) (sym n) ∙ at.invariant.1

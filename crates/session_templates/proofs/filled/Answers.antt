@@ -4,18 +4,18 @@ use Rattle.session_texts.specs.Text.{said}
 use Rattle.session_templates.proofs.Room.{piece_at, filled_on, filled_end}
 use Rattle.session_templates.proofs.filled.Goals as goal
 
-pub loop-letter-preserved : goal.loop-letter-preserved
-loop-letter-preserved c =
-    let l = c.loop-letter in
-    let n = c.args.numbers in
+pub loop-byte-preserved : goal.loop-byte-preserved
+loop-byte-preserved c =
+    let l = c.loop-byte in
+    let n = c.args.letters in
     let t = c.args.template.now in
-    let i = l.letter-index in
+    let i = l.byte-index in
     let inside : i < length t = omega arith in
     l.invariant
-    ∙ filled_on n.first n.second n.signed t i (i + 1) _ (said l.text) (piece_at n.first n.second n.signed t i inside) c.push_piece.ensures
+    ∙ filled_on n.a n.b n.z t i (i + 1) _ (said l.text) (piece_at n.a n.b n.z t i inside) c.push_piece.ensures
 
 pub returns : goal.returns
 returns c =
-    let l = c.loop-letter in
-    let n = c.args.numbers in
-    filled_end n.first n.second n.signed c.args.template.now l.letter-index (said l.text) (omega arith) l.invariant c.end_line.ensures
+    let l = c.loop-byte in
+    let n = c.args.letters in
+    filled_end n.a n.b n.z c.args.template.now l.byte-index (said l.text) (omega arith) l.invariant c.end_line.ensures

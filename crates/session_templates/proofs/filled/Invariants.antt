@@ -4,7 +4,7 @@ use Rattle.session_texts.specs.Text.{room, said}
 use Rattle.session_templates.specs.Filled.{filled}
 use Rattle.session_templates.proofs.filled.Given as goal
 
-abbrev pub invariant-loop-letter : goal.invariant-loop-letter
-invariant-loop-letter l =
-    let n = l.numbers in
-    take room (filled l.template n.first n.second n.signed) ≡ take room (said l.text ++ filled (drop l.letter-index l.template) n.first n.second n.signed)
+abbrev pub invariant-loop-byte : goal.invariant-loop-byte
+invariant-loop-byte l =
+    let n = l.letters in
+    take room (filled l.template n.a n.b n.z) ≡ take room (said l.text ++ filled (drop l.byte-index l.template) n.a n.b n.z)

@@ -6,7 +6,7 @@ use mir.ValLaws.{to_z-of_z}
 use borrow.Author.Rules.{sfits_of}
 use Rattle.readings_rules.specs.declared.Burst.TheVariants.{Missed}
 use Rattle.watch_rules.specs.declared.Watch.{Watch}
-use Rattle.watch_rules.specs.Told.{Called, start, file, ask, verdict}
+use Rattle.watch_rules.specs.Told.{Called, start, new_beam, file, ask, verdict}
 use Rattle.watch_rules.specs.Record.{called}
 use Rattle.session_words.specs.Words.{words_of}
 use Rattle.session_calls.specs.Table.{row_at}
@@ -55,12 +55,14 @@ returns-in-4 c =
 pub returns-in-5 : goal.returns-in-5
 unfolding watch_rows
 returns-in-5 c =
-    c.start-in-5.ensures ∙ ap₂ (λ n d. called c.args.watch (start n d)) c.channel_at-in-5.ensures c.byte_at.ensures
+    c.start-in-5.ensures ∙ ap₂ (λ n d. called c.args.watch (start n d)) c.channel_at-in-5.ensures (c.from.ensures ∙ c.byte_at.ensures)
     ∙ is c.args.watch c.args.line.now c.in-5.is
 
 pub returns-in-6 : goal.returns-in-6
 unfolding watch_rows
-returns-in-6 c = c.new_beam.ensures ∙ is c.args.watch c.args.line.now c.in-6.is
+returns-in-6 c =
+    c.new_beam.ensures ∙ ap₂ (λ n ns. called c.args.watch (new_beam n ns)) c.channel_at-in-6.ensures (c.deref.ensures.0 ∙ c.list_at.ensures)
+    ∙ is c.args.watch c.args.line.now c.in-6.is
 
 pub returns-in_default : goal.returns-in_default
 unfolding watch_rows

@@ -13,7 +13,7 @@ pub returns-then-row-lt-WATCH_ROWS : goal.returns-then-row-lt-WATCH_ROWS
 unfolding watch_rows handed_over
 returns-then-row-lt-WATCH_ROWS c =
     let a = c.args in
-    (λ i. record { state = with_watch a.state c.watch_row-handed.result.watch; text = c.of_watch.ensures i })
+    (λ i. record { state = with_watch a.state c.watch_row-handed.result.state; text = c.of_watch.ensures i })
     ∙ ap (handed_over a.state) c.watch_row-handed.ensures
     ∙ on_watch_lem a.number a.state (words_of a.line.now) c.if-row-lt-WATCH_ROWS.true
 
@@ -21,7 +21,7 @@ pub returns-then-row-lt-SWEEP_ROWS : goal.returns-then-row-lt-SWEEP_ROWS
 unfolding watch_rows sweep_rows sweep_handed_over
 returns-then-row-lt-SWEEP_ROWS c =
     let a = c.args in
-    ap (sweep_handed_over a.state) c.sweep_row-handed.ensures
+    ap (sweep_handed_over a.state) c.sweep_row-answered.ensures
     ∙ on_sweep_lem a.number a.state (words_of a.line.now) c.if-row-lt-WATCH_ROWS.false c.if-row-lt-SWEEP_ROWS.true
 
 -- a row after those on the watch, on the sweep and of the choice
