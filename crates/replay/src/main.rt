@@ -4,11 +4,10 @@
 
 use session::Session;
 use std::env::{Env, FillError};
-use std::fmt;
 use std::fs::{self, Files};
 use std::io::{Error, ErrorKind, Read};
 use std::process::ExitCode;
-use std::str;
+use std::{fmt, str};
 
 // The system's number of the error that a name is too long.
 const NAME_TOO_LONG: i32 = 36;
@@ -33,11 +32,14 @@ impl fmt::Display for Failure<'_> {
 }
 
 fn write_answers<'a>(rt: &impl Print, answers: &[u8]) -> Result<(), Failure<'a>> {
-    rt.write_all(answers)
-        .map_err(|why| Failure { what: STANDARD_OUTPUT, why })
+    rt.write_all(answers).map_err(|why| Failure {
+        what: STANDARD_OUTPUT,
+        why,
+    })
 }
 
-// Answers a block; the buffer of answers is written out each time that it is full.
+// Answers a block; the buffer of answers is written out each time that it is full. How much of the block a turn takes is what the session answers,
+// so that no iterator gives the turns.
 fn replay_block<'a>(
     rt: &impl Print,
     session: Session,
@@ -57,10 +59,7 @@ fn replay_block<'a>(
 
 // Answers a last line that lacks its newline.
 fn replay_last<'a>(rt: &impl Print, session: Session) -> Result<(), Failure<'a>> {
-    let mut out = io::buffer();
-    let last = session::finish(session);
-    let n = session_texts::put(&mut out, 0, last);
-    write_answers(rt, &out[..n])
+    write_answers(rt, session::finish(session).as_bytes())
 }
 
 // Reads once and answers what came, or at the end of the file its last line: then no session goes on.
@@ -71,9 +70,7 @@ fn replay_some<'a, R: Read>(
     session: Session,
 ) -> Result<Option<Session>, Failure<'a>> {
     let mut block = io::large_buffer();
-    let n = from
-        .read(&mut block)
-        .map_err(|why| Failure { what, why })?;
+    let n = from.read(&mut block).map_err(|why| Failure { what, why })?;
     if n == 0 {
         replay_last(rt, session)?;
         return Ok(None);

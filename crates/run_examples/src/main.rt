@@ -33,7 +33,12 @@ fn say(rt: &impl Print, answer: Text) -> io::Result<()> {
 }
 
 // The answer of a call on a record, and whether the record beside it is the one that was given.
-fn say_handed<R, A, F>(rt: &impl Print, given: R, handed: Handed<R, A>, text_of: F) -> io::Result<()>
+fn say_handed<R, A, F>(
+    rt: &impl Print,
+    given: R,
+    handed: Handed<R, A>,
+    text_of: F,
+) -> io::Result<()>
 where
     R: PartialEq + Drop,
     F: FnOnce(Result<A, Refusal>) -> Text,

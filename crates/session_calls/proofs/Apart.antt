@@ -51,6 +51,20 @@ fixed a w e =
     let r = neither (alike a (bytes_of "BYTE")) (alike a (bytes_of "NUM")) q.1 in
     cond-false _ _ p.0 ∙ cond-false _ _ q.0 ∙ cond-false _ _ r.0 ∙ cond-false _ _ r.1
 
+unlike : (a b : List ℕ) → (a ≡ b → ⊥) → alike a b ≡ false
+unlike a b h = go (alike a b) (same_word a b)
+  where
+    go : (t : Bool) → (t ≡ true → a ≡ b) → t ≡ false
+    go true f = absurd (h (f refl))
+    go false f = refl
+
+-- a word of a row that is none of the four
+pub other_word : (a w : List ℕ) → (a ≡ bytes_of "CH" → ⊥) → (a ≡ bytes_of "INT" → ⊥) → (a ≡ bytes_of "BYTE" → ⊥) → (a ≡ bytes_of "NUM" → ⊥)
+    → alike a w ≡ fits_word a w
+unfolding fits_word
+other_word a w no_ch no_int no_byte no_num =
+    sym (cond-false _ _ (unlike a _ no_ch) ∙ cond-false _ _ (unlike a _ no_int) ∙ cond-false _ _ (unlike a _ no_byte) ∙ cond-false _ _ (unlike a _ no_num))
+
 -- no word fits both
 abbrev pub apart : List ℕ → List ℕ → Bool
 apart a b = cond (is_kind a) (cond (is_kind b) false (not (fits_word a b))) (cond (is_kind b) (not (fits_word b a)) (not (alike b a)))

@@ -1,7 +1,13 @@
 -- A table of calls by the numbers of its rows, where it stands in parts.
-use Prim.Native.Nat.{ℕ, zero, suc, ◌-◌, ◌≤◌, ◌<◌}
-use mathlib.Core.Path.{◌≡◌, refl, ap, ◌∙◌}
-use mathlib.Core.Bool.{Bool, true, false, cond}
+use Prim.Native.Nat.{ℕ, zero, suc, ◌+◌, ◌-◌, ◌≤◌, ◌<◌}
+use Rattle.std.specs.Prelude.{Some, None, unwrap_or, position}
+use Rattle.std.specs.List.{position_or_len}
+use Rattle.std.proofs.lemmas.List.Recursion.{is_position_or_len}
+use Rattle.std.proofs.lemmas.List.Sums.{prefix_len-le-length}
+use lib.Dec.{ltb}
+use borrow.Author.Tests.{ltb-false}
+use mathlib.Core.Path.{◌≡◌, refl, sym, ap, ◌∙◌}
+use mathlib.Core.Bool.{Bool, true, false, cond, not}
 use mathlib.Core.List.{List, [], ◌∷◌, ◌++◌, map}
 use native.Mathlib.Omega.{arith}
 use lib.ListN.{length}
@@ -18,6 +24,25 @@ first_most ws ((text asks call) ∷ rows) = go (fits (words_of (text_of (text as
     go : (t : Bool) → first_fit (map text_of rows) ws ≤ length rows → cond t 0 (suc (first_fit (map text_of rows) ws)) ≤ suc (length rows)
     go true h = omega arith
     go false h = omega arith
+
+-- the number of the first row that a line has, as the library looks for it; where it has none, the number of rows
+pub first_is : (ws : List (List ℕ)) (rows : List (List ℕ)) → unwrap_or (position (λ row. fits (words_of row) ws) rows) (length rows) ≡ first_fit rows ws
+unfolding first_fit
+first_is ws rows = go (ltb at (length rows)) refl ∙ sym (is_position_or_len (λ r. first_fit r ws) has refl (λ row r. after (has row) (first_fit r ws)) rows)
+  where
+    has : List ℕ → Bool
+    has row = fits (words_of row) ws
+
+    at : ℕ
+    at = position_or_len has rows
+
+    after : (t : Bool) (n : ℕ) → cond t 0 (suc n) ≡ cond t 0 (1 + n)
+    after true n = refl
+    after false n = omega arith
+
+    go : (t : Bool) → ltb at (length rows) ≡ t → unwrap_or (cond t (Some at) None) (length rows) ≡ at
+    go true h = refl
+    go false h = omega (arith, ltb-false at (length rows) h, prefix_len-le-length (λ row. not (has row)) rows)
 
 module _ {A : Type 0} (otherwise : A) (ws : List (List ℕ)) where
   -- the first row that a line has, by its number

@@ -1,22 +1,16 @@
 -- Session files, section Calls: the rows of a table of calls, as texts, and which of them a line has.
-use Rattle.std.specs.Prelude.{ℕ, zero, suc, Bool, true, false, cond, ◌&&◌, List, [], ◌∷◌, eqb}
-use Rattle.std.proofs.Math.Option.{Option, none, some}
+use Rattle.std.specs.Prelude.{ℕ, zero, suc, Bool, true, false, cond, ◌&&◌, List, [], ◌∷◌, eqb, is_some}
 use Rattle.session_words.specs.Bytes.{bytes_of, newline, alike}
 use Rattle.session_words.specs.Words.{before, words_of}
 use Rattle.session_numbers.specs.Numbers.{channel_of, byte_of, int_of, num_of}
 
--- whether a word has a value of some kind
-abbrev pub has : {A : Type 0} → Option A → Bool
-has none = false
-has (some a) = true
-
 -- whether a word of a line is what a word of a row asks for: a number of the kind that it names, or the word itself
 unfoldable pub fits_word : List ℕ → List ℕ → Bool
 fits_word asked w =
-    cond (alike asked (bytes_of "CH")) (has (channel_of w))
-    (cond (alike asked (bytes_of "INT")) (has (int_of w))
-    (cond (alike asked (bytes_of "BYTE")) (has (byte_of w))
-    (cond (alike asked (bytes_of "NUM")) (has (num_of w))
+    cond (alike asked (bytes_of "CH")) (is_some (channel_of w))
+    (cond (alike asked (bytes_of "INT")) (is_some (int_of w))
+    (cond (alike asked (bytes_of "BYTE")) (is_some (byte_of w))
+    (cond (alike asked (bytes_of "NUM")) (is_some (num_of w))
     (alike asked w))))
 
 -- CH.., the last word of a row: 0 to 8 channels
@@ -30,7 +24,7 @@ most_channels = 8
 unfoldable pub channels_up_to : ℕ → List (List ℕ) → Bool
 channels_up_to n [] = true
 channels_up_to zero (w ∷ ws) = false
-channels_up_to (suc n) (w ∷ ws) = has (channel_of w) && channels_up_to n ws
+channels_up_to (suc n) (w ∷ ws) = is_some (channel_of w) && channels_up_to n ws
 
 -- whether a line has a row, both as their words: each word fits, and none is left over
 unfoldable pub fits : List (List ℕ) → List (List ℕ) → Bool

@@ -1,6 +1,7 @@
 -- Decimals: digits before a point and after it are the digits of one whole number.
 use Prim.Native.Nat.{ℕ, suc, ◌+◌, ◌-◌, ◌*◌, ◌^◌, ◌≤◌, ◌<◌}
-use Rattle.std.proofs.Common.{◌≡◌, Bool, true, false, cond, ◌&&◌, List, [], ◌∷◌, ◌++◌, length, take, drop, leb, ltb, None, Some, refl, sym, ap, ◌∙◌, arith, le-leb, add-one, ◌==◌}
+use Rattle.std.proofs.Common.{◌≡◌, Bool, true, false, cond, ◌&&◌, List, [], ◌∷◌, ◌++◌, length, take}
+use Rattle.std.proofs.Common.{drop, leb, ltb, None, Some, refl, sym, ap, ◌∙◌, arith, le-leb, add-one, ◌==◌}
 use Rattle.std.specs.List.{position_or_len}
 use Rattle.byte_scan.proofs.Places.{index_is}
 use Rattle.std.specs.Prelude.{option_map, Float}

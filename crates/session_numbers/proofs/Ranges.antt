@@ -23,7 +23,8 @@ natural_told k highest E s r top h = go (whole_of s) h
     by (negsuc n) (Ok x) f = absurd f.0
     by (negsuc n) (Err e) f = refl
 
-    go : (o : Option ℤ) → Told (λ z (o : Result ℕ E). OkIff o (FitsUnsignedBits k z) (unsigned_abs z)) o r → r ≡ option_map nat_abs (within (pos 0) (pos highest) o)
+    go : (o : Option ℤ) → Told (λ z (o : Result ℕ E). OkIff o (FitsUnsignedBits k z) (unsigned_abs z)) o r
+        → r ≡ option_map nat_abs (within (pos 0) (pos highest) o)
     go None e = e
     go (Some z) t = t.2 ∙ by z t.0 t.1
 

@@ -3,7 +3,8 @@ use Rattle.std.proofs.Common.{◌≡◌, ℕ, ◌+◌, ◌*◌, ◌<◌, ◌≤�
 use Rattle.std.proofs.lemmas.List.{at_drop_all}
 use Rattle.session_numbers.specs.Code.{digit_in, run_after}
 
-pub run_on : (r v : ℕ) (s : List ℕ) (i d : ℕ) → i < length s → digit_in r (get_or s i 0) ≡ Some d → run_after r v (drop i s) ≡ run_after r (v * r + d) (drop (i + 1) s)
+pub run_on : (r v : ℕ) (s : List ℕ) (i d : ℕ) → i < length s → digit_in r (get_or s i 0) ≡ Some d
+    → run_after r v (drop i s) ≡ run_after r (v * r + d) (drop (i + 1) s)
 unfolding run_after
 run_on r v s i d h e = rw (add-one, drop-cons s i 0, e)
 

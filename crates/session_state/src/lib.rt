@@ -19,6 +19,7 @@ pub struct State {
 }
 
 // The state at the start of a session: all of it fresh or zero.
+#[tactic(auto, unfolding(crate::specs::State::begins))]
 pub fn start() -> State
     ensures { result ≡ begins }
 {
@@ -26,20 +27,7 @@ pub fn start() -> State
         sweep: sweep::fresh(),
         outcomes: [0; CHANNELS],
         watch: watch_record::fresh(),
-        power: PowerRecord {
-            panlast: 0,
-            parsave: 0,
-            panbasic: 0,
-            increase: 0,
-        },
-        parameters: PowerParameters {
-            sqt: 0,
-            paninit: 0,
-            panmin: 0,
-            panmax: 0,
-            gainup: 0,
-            gaindn: 0,
-            mestep: 0,
-        },
+        power: PowerRecord::default(),
+        parameters: PowerParameters::default(),
     }
 }

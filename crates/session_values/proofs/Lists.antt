@@ -1,5 +1,6 @@
 -- The channels of a list: the words from a place on, as far as the line has them.
-use Rattle.std.proofs.Common.{◌≡◌, ℕ, zero, suc, ◌+◌, ◌-◌, ◌<◌, ◌≤◌, List, [], ◌∷◌, map, length, get_or, take, drop, refl, sym, ap, ◌∙◌, drop-cons, add-suc, arith}
+use Rattle.std.proofs.Common.{◌≡◌, ℕ, zero, suc, ◌+◌, ◌-◌, ◌<◌, ◌≤◌, List, [], ◌∷◌}
+use Rattle.std.proofs.Common.{map, length, get_or, take, drop, refl, sym, ap, ◌∙◌, drop-cons, add-suc, arith}
 use Rattle.std.proofs.lemmas.List.{drop_all}
 use native.Mathlib.Nat.{lt_of_not-le, add-zero}
 use native.Mathlib.Decide.{dec_le}

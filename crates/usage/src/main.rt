@@ -127,7 +127,12 @@ fn say_power(rt: &impl Print) -> io::Result<()> {
         mestep: 2,
     };
     let started = power::start(parameters);
-    let stepped = power::step(parameters, started.state, Decoded::Codes { pan: 20, par: 20 }, 850);
+    let stepped = power::step(
+        parameters,
+        started.state,
+        Decoded::Codes { pan: 20, par: 20 },
+        850,
+    );
     match stepped.answer {
         Ok(Sent { par, pan }) => {
             println!(rt; "send PAR {par}")?;
@@ -135,7 +140,11 @@ fn say_power(rt: &impl Print) -> io::Result<()> {
         }
         Err(why) => say_refused(rt, why)?,
     }
-    say_outcome(rt, "power record well formed", power::check(stepped.state).answer)
+    say_outcome(
+        rt,
+        "power record well formed",
+        power::check(stepped.state).answer,
+    )
 }
 
 fn main(rt: HostRuntime) -> io::Result<()> {

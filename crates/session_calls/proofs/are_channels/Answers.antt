@@ -1,31 +1,47 @@
--- The word at hand and those after it, by the laws of `Comparing`.
-use Rattle.std.proofs.Common.{◌<◌, length, sym, ◌∙◌, arith}
-use Rattle.session_calls.proofs.Comparing.{too_many, no_channel, last_channel, next_channel}
+-- Word by word, by the laws of `Channels`.
+use Rattle.std.proofs.Common.{◌-◌, sym, ap, refl, ◌∙◌}
+use Rattle.std.specs.Prelude.{is_some}
+use Rattle.session_numbers.proofs.Ranges.{natural_told}
+use Rattle.session_calls.specs.Grammar.{channels_up_to}
+use Rattle.session_calls.proofs.Going.{ended, took}
+use Rattle.session_calls.proofs.Channels.{none_left, no_channel, channel_on, at_end}
 use Rattle.session_calls.proofs.are_channels.Goals as goal
 
-pub returns-then-not-is_natural : goal.returns-then-not-is_natural
-returns-then-not-is_natural c =
-    let l = c.loop-left in
-    sym (l.invariant.1
-    ∙ no_channel c.args.line.now l.invariant.0 c.find-end.ensures.place l.left c.loop-left-test.true (sym c.if-not-is_natural.ensures))
+pub returns-in_default : goal.returns-in_default
+returns-in_default g c = λ ws h.
+    let l = c.loop in
+    let i = l.invariant ws h in
+    sym (i.2
+    ∙ ap (channels_up_to (8 - l.counter)) (ended g.W.Iterator.next_gives l.words c.next.new.self i.0 i.1 c.in_default.ensures.steps)
+    ∙ none_left (8 - l.counter))
 
-pub returns-then-end-line : goal.returns-then-end-line
-returns-then-end-line c =
-    let l = c.loop-left in
-    sym (l.invariant.1
-    ∙ last_channel c.args.line.now l.invariant.0 c.find-end.ensures.place l.left c.loop-left-test.true (sym c.if-not-is_natural.ensures)
-    c.if-end-line.true)
+pub returns-then-is_none : goal.returns-then-is_none
+returns-then-is_none g c = λ ws h.
+    let l = c.loop in
+    let i = l.invariant ws h in
+    let n = took g.W.Iterator.next_gives l.words c.next.new.self i.0 c.in-Some.word i.1 c.in-Some.ensures.steps in
+    let told = natural_told 16 65535 _ c.in-Some.word.now c.whole_number.result refl c.whole_number.ensures in
+    sym (i.2
+    ∙ ap (channels_up_to (8 - l.counter)) n.is
+    ∙ no_channel l.counter c.in-Some.word.now n.rest c.loop-test.true (ap is_some (sym told) ∙ c.if-is_none.ensures))
 
-pub loop-left-preserved : goal.loop-left-preserved
-loop-left-preserved c =
-    let l = c.loop-left in
-    let inside : c.find-end.result < length c.args.line.now = omega (arith, c.find-end.ensures.most, c.if-end-line.false) in (
-      omega arith,
-      l.invariant.1
-          ∙ next_channel c.args.line.now l.invariant.0 c.find-end.ensures.place l.left c.loop-left-test.true (sym c.if-not-is_natural.ensures) inside,
+pub loop-preserved : goal.loop-preserved
+loop-preserved g c = λ ws h.
+    let l = c.loop in
+    let i = l.invariant ws h in
+    let n = took g.W.Iterator.next_gives l.words c.next.new.self i.0 c.in-Some.word i.1 c.in-Some.ensures.steps in
+    let told = natural_told 16 65535 _ c.in-Some.word.now c.whole_number.result refl c.whole_number.ensures in (
+      n.rest,
+      n.left,
+      i.2
+          ∙ ap (channels_up_to (8 - l.counter)) n.is
+          ∙ channel_on l.counter c.in-Some.word.now n.rest c.loop-test.true (ap is_some (sym told) ∙ c.if-is_none.ensures),
     )
 
 pub returns : goal.returns
-returns c =
-    let l = c.loop-left in
-    sym (l.invariant.1 ∙ too_many c.args.line.now l.invariant.0 l.left (omega (arith, c.loop-left-test.false)))
+returns g c = λ ws h.
+    let l = c.loop in
+    let i = l.invariant ws h in
+    at_end g.W.Iterator.next_gives l.words c.next-2.new.self c.next-2.result c.is_none-2.result l.counter i.0 c.loop-test.false i.1 c.next-2.ensures.steps
+    c.is_none-2.ensures
+    ∙ sym i.2

@@ -1,12 +1,10 @@
 -- What is left of the words are channels, and not more than are left.
-use Rattle.std.proofs.Common.{◌≡◌, ◌≤◌, length, drop}
-use Rattle.session_words.specs.Words.{words_of}
-use Rattle.session_calls.specs.Grammar.{most_channels, channels_up_to}
+use Rattle.std.proofs.Common.{◌≡◌, ℕ, ◌-◌, List}
+use Rattle.session_calls.specs.Grammar.{channels_up_to}
+use Rattle.session_calls.specs.Code.{WordsOf}
 use Rattle.session_calls.proofs.are_channels.Given as goal
 
-abbrev pub invariant-loop-left : goal.invariant-loop-left
-invariant-loop-left l =
-    (l.at ≤ length l.line) × (channels_up_to most_channels (words_of (drop l.from l.line)) ≡ channels_up_to l.left (words_of (drop l.at l.line)))
-
-abbrev pub decreases-loop-left : goal.decreases-loop-left
-decreases-loop-left l = l.left
+abbrev pub invariant-loop : goal.invariant-loop
+invariant-loop g l =
+    (ws : List (List ℕ)) → WordsOf g.W.Iterator.next_gives l.initial.words ws
+    → (vs : List (List ℕ)) × WordsOf g.W.Iterator.next_gives l.words vs × (channels_up_to 8 ws ≡ channels_up_to (8 - l.counter) vs)

@@ -5,7 +5,8 @@ use Rattle.session_numbers.proofs.Radices.{digits_run, digits_empty, digits_long
 use Rattle.session_numbers.proofs.digits.Goals as goal
 
 pub returns-then-is_empty-clause-value : goal.returns-then-is_empty-clause-value
-returns-then-is_empty-clause-value c = elim c.then-is_empty.either [ inl h ↦ digits_empty _ _ (eqb-true _ _ (sym c.is_empty.ensures ∙ h)) | inr h ↦ digits_long _ _ h.1 ]
+returns-then-is_empty-clause-value c =
+    elim c.then-is_empty.either [ inl h ↦ digits_empty _ _ (eqb-true _ _ (sym c.is_empty.ensures ∙ h)) | inr h ↦ digits_long _ _ h.1 ]
 
 pub returns-clause-value : goal.returns-clause-value
 returns-clause-value c =

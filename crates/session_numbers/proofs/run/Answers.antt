@@ -21,13 +21,16 @@ overflow_add-value c =
       arith,
       ap (λ r. l.value * r) c.from.ensures,
       c.from-in-loop-b.ensures,
-      finds_room c.args.radix l.value d l.b-index (length c.args.word.now) 18446744073709551616 l.invariant.1 c.in_ok-digit.ensures.most c.loop-b-test.true c.requires.room,
+      finds_room c.args.radix l.value d l.b-index (length c.args.word.now) 18446744073709551616 l.invariant.1 c.in_ok-digit.ensures.most
+          c.loop-b-test.true c.requires.room,
     )
 
 pub returns-in_err-digit-clause-value : goal.returns-in_err-digit-clause-value
 returns-in_err-digit-clause-value c =
     let l = c.loop-b in
-    c.from_residual.ensures ∙ sym (run_off c.args.radix l.value c.args.word.now l.b-index c.loop-b-test.true (sym c.in_err-digit.ensures.value)) ∙ l.invariant.0
+    c.from_residual.ensures
+    ∙ sym (run_off c.args.radix l.value c.args.word.now l.b-index c.loop-b-test.true (sym c.in_err-digit.ensures.value))
+    ∙ l.invariant.0
 
 pub loop-b-preserved : goal.loop-b-preserved
 loop-b-preserved c =

@@ -46,7 +46,8 @@ pub returns-in_err-digits-in-None : goal.returns-in_err-digits-in-None
 unfolding whole_of
 returns-in_err-digits-in-None c =
     c.from_residual-in_err-digits-in-None.ensures
-    ∙ sign_plain (λ n. neg_ℤ (pos n)) pos (digits_of 10) c.args.word.now None c.in-None.ensures.cases (digits_empty 10 [] refl) c.in_err-digits-in-None.ensures.value
+    ∙ sign_plain (λ n. neg_ℤ (pos n)) pos (digits_of 10) c.args.word.now None c.in-None.ensures.cases (digits_empty 10 [] refl)
+    c.in_err-digits-in-None.ensures.value
 
 pub returns-in_ok-digits-in-Some : goal.returns-in_ok-digits-in-Some
 unfolding whole_of

@@ -34,7 +34,8 @@ push-requires c =
     let w = words (goal.at.push-requires c).After-into_iter-word-iterator in
     let l = c.loop-word in
     let turn = YieldsList-turn w l.yielded l.word-iterator l.yielded_by c.next.result c.next.new.self c.in-Some.word c.in-Some.is c.next.ensures.steps in
-    let few : length l.channels.items < 8 = omega (arith, length-take {A = List ℕ}, ap length l.invariant, length-map {A = List ℕ} {B = ℕ}, length-map {A = Bor (List ℕ)} {B = List ℕ}, turn.0) in
+    let few : length l.channels.items < 8
+    = omega (arith, length-take {A = List ℕ}, ap length l.invariant, length-map {A = List ℕ} {B = ℕ}, length-map {A = Bor (List ℕ)} {B = List ℕ}, turn.0) in
     (lit< tt, few)
 
 pub loop-word-preserved : goal.loop-word-preserved
