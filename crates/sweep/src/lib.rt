@@ -17,12 +17,12 @@ use refusal::{Handed, Refusal};
 pub use sweep_rules::{CHANNELS, FIRST_SWEPT, LAST_SWEPT, Numbers, Sweep, WORDS};
 
 // The bits of a word of a map.
-const WORD_BITS: usize = 64;
+const WORD_BITS: usize = u64::BITS as usize;
 
 // Half a word: its bits, and the weight of the upper half.
-const HALF_BITS: usize = 32;
+const HALF_BITS: usize = WORD_BITS / 2;
 
-const HALF_WORD: u64 = 0x1_0000_0000;
+const HALF_WORD: u64 = 1 << HALF_BITS;
 
 // A fresh record: all zero.
 pub fn fresh() -> Sweep

@@ -1,5 +1,5 @@
 -- `walk` meets its contract: each turn of the outer loop takes the next key of the order, which the scan finds.
-use Rattle.std.proofs.Common.{ℕ, ◌+◌, ◌≡◌, arith, sym, ap, ◌∙◌, subst, length, get_or, length-append}
+use Rattle.std.proofs.Common.{◌%◌, rules, ℕ, ◌+◌, ◌≡◌, arith, sym, ap, ◌∙◌, subst, length, get_or, length-append}
 use Rattle.std.proofs.lemmas.List.{get_or_default}
 use Rattle.std.proofs.lemmas.Iterator.{YieldsList-from_slice}
 use Rattle.std.proofs.lemmas.Iterator.Consumers.{YieldsList-turn, YieldsList-end}
@@ -63,8 +63,10 @@ order-smaller c = less c.requires c.order.invariant (next_key (goal.at.order-sma
 pub order-preserved : goal.order-preserved
 order-preserved c =
     let j = (goal.at.order-preserved c).Joined-tried-eq0 in
-    walked_on c.requires c.order.invariant (next_key j) (strongest_is_top j) c.if-strongest-margin.false
-    c.if-outcome-eq-NOT_READ.false c.if-outcome-eq-SUITABLE.false
+    let outcome = get_or c.args.outcomes.now (c.scan.next % 2048) 0 in
+    let unread : outcome ≡ 0 → ⊥ = search rules in
+    let unsuitable : outcome ≡ 1 → ⊥ = search rules in
+    walked_on c.requires c.order.invariant (next_key j) (strongest_is_top j) c.if-strongest-margin.false unread unsuitable
 
 -- the next one is far
 pub returns-then-strongest-margin : goal.returns-then-strongest-margin
@@ -72,12 +74,12 @@ returns-then-strongest-margin c =
     let j = (goal.at.returns-then-strongest-margin c).Joined-tried-eq0 in
     says_far c.requires c.order.invariant (next_key j) (strongest_is_top j) c.if-strongest-margin.true
 
-pub returns-then-outcome-eq-NOT_READ : goal.returns-then-outcome-eq-NOT_READ
-returns-then-outcome-eq-NOT_READ c =
-    let j = (goal.at.returns-then-outcome-eq-NOT_READ c).Joined-tried-eq0 in
-    says_read c.requires c.order.invariant (next_key j) (strongest_is_top j) c.if-strongest-margin.false c.if-outcome-eq-NOT_READ.true
+pub returns-in-0 : goal.returns-in-0
+returns-in-0 c =
+    let j = (goal.at.returns-in-0 c).Joined-tried-eq0 in
+    says_read c.requires c.order.invariant (next_key j) (strongest_is_top j) c.if-strongest-margin.false c.in-0.is
 
-pub returns-then-outcome-eq-SUITABLE : goal.returns-then-outcome-eq-SUITABLE
-returns-then-outcome-eq-SUITABLE c =
-    let j = (goal.at.returns-then-outcome-eq-SUITABLE c).Joined-tried-eq0 in
-    says_camp c.requires c.order.invariant (next_key j) (strongest_is_top j) c.if-strongest-margin.false c.if-outcome-eq-SUITABLE.true
+pub returns-in-1 : goal.returns-in-1
+returns-in-1 c =
+    let j = (goal.at.returns-in-1 c).Joined-tried-eq0 in
+    says_camp c.requires c.order.invariant (next_key j) (strongest_is_top j) c.if-strongest-margin.false c.in-1.is
