@@ -68,22 +68,18 @@ bits_zero (pos n) f = refl
 bits_zero (negsuc n) f = let h : of_z w16 (negsuc n) ≡ 0 → ⊥ = λ e. omega (arith, f.sfits) in ne_eqb (of_z w16 (negsuc n)) 0 h
 
 -- one level more: n levels are used, and this is the one at place j
-pub one-level : (n j : ℕ) (l : List ℤ) → j < length l
-    → levels_fine (n - j) (drop j l)
-    ≡ ((level_in_range (get_or l j (pos 0)) && (ltb j n || is_zero (get_or l j (pos 0)))) && levels_fine (n - (j + 1)) (drop (j + 1) l))
-one-level n j l inside = by_case (ltb j n) among after
+pub one-level : (n j : ℕ) (x : ℤ) (xs : List ℤ)
+    → levels_fine (n - j) (x ∷ xs) ≡ ((level_in_range x && (ltb j n || is_zero x)) && levels_fine (n - (j + 1)) xs)
+one-level n j x xs = by_case (ltb j n) among after
   where
-    x : ℤ
-    x = get_or l j (pos 0)
-
     rest : Bool → Bool
-    rest b = (level_in_range x && (b || is_zero x)) && levels_fine (n - (j + 1)) (drop (j + 1) l)
+    rest b = (level_in_range x && (b || is_zero x)) && levels_fine (n - (j + 1)) xs
 
-    among : ltb j n ≡ true → levels_fine (n - j) (drop j l) ≡ rest (ltb j n)
+    among : ltb j n ≡ true → levels_fine (n - j) (x ∷ xs) ≡ rest (ltb j n)
     among q =
         let e : n - j ≡ suc (n - (j + 1)) = omega (arith, ltb-true j n q) in
-        ap₂ levels_fine e (from_place j l (pos 0) inside)
-        ∙ ap (λ (b : Bool). b && levels_fine (n - (j + 1)) (drop (j + 1) l)) (sym (and-true (level_in_range x)))
+        ap (λ (m : ℕ). levels_fine m (x ∷ xs)) e
+        ∙ ap (λ (b : Bool). b && levels_fine (n - (j + 1)) xs) (sym (and-true (level_in_range x)))
         ∙ ap rest (sym q)
 
     -- a level that is 0 lies in the range
@@ -91,17 +87,19 @@ one-level n j l inside = by_case (ltb j n) among after
     both = by_case (is_zero x) (λ z. z ∙ sym (and_both (zero_ranged x z) z))
         (λ z. z ∙ sym (ap (λ (b : Bool). level_in_range x && b) z ∙ and-false (level_in_range x)))
 
-    after : ltb j n ≡ false → levels_fine (n - j) (drop j l) ≡ rest (ltb j n)
+    after : ltb j n ≡ false → levels_fine (n - j) (x ∷ xs) ≡ rest (ltb j n)
     after q =
         let e : n - j ≡ 0 = omega (arith, ltb-false j n q) in
         let k : 0 ≡ n - (j + 1) = omega (arith, ltb-false j n q) in
-        ap₂ levels_fine e (from_place j l (pos 0) inside)
-        ∙ ap₂ (λ (b : Bool) (m : ℕ). b && levels_fine m (drop (j + 1) l)) both k
+        ap (λ (m : ℕ). levels_fine m (x ∷ xs)) e
+        ∙ ap₂ (λ (b : Bool) (m : ℕ). b && levels_fine m xs) both k
         ∙ ap rest (sym q)
 
--- past the last of them, where there is room for all that are used
-pub levels_past : (n j : ℕ) (l : List ℤ) → length l ≤ j → n ≤ j → levels_fine (n - j) (drop j l) ≡ true
-levels_past n j l h g = let e : n - j ≡ 0 = omega arith in ap₂ levels_fine e (drop_of_length-le l h)
+-- past the last of them
+pub levels_past : (n : ℕ) (l : List ℤ) → n ≡ 0 → length l ≡ 0 → levels_fine n l ≡ true
+levels_past zero [] e h = refl
+levels_past (suc n) l e h = absurd (omega arith)
+levels_past zero (x ∷ l) e h = absurd (omega arith)
 
 pub levels_lacking : (n : ℕ) (l : List ℤ) → length l < n → levels_fine n l ≡ false
 levels_lacking zero l h = absurd (omega arith)

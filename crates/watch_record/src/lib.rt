@@ -36,7 +36,7 @@ pub fn empty(channel: u16) -> Track
     }
 }
 
-// A track's levels lie in the range as far as its count, and are 0 beyond it. None leaves early, and places are counted in 16 bits too, so that
+// A track's levels lie in the range as far as its count, and are 0 beyond it. None leaves early, and places are counted in 16 bits, so that
 // the compiled loop takes several at a time.
 fn levels_ok(t: &Track) -> bool
     ensures { result ≡ levels_fine t.now.count t.now.levels }
@@ -46,11 +46,9 @@ fn levels_ok(t: &Track) -> bool
     }
     let count = t.count as u16;
     let mut ok = true;
-    let mut place: u16 = 0;
-    for level in &t.levels {
+    for (level, place) in t.levels.iter().zip(0u16..) {
         ok &= (LEVEL_LOWEST..=LEVEL_HIGHEST).contains(&i32::from(*level))
             & ((place < count) | (*level == 0));
-        place += 1;
     }
     ok
 }
