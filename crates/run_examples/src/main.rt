@@ -198,7 +198,7 @@ fn say_beam_case(rt: &impl Print, serving: u16, n: [u16; LISTED]) -> io::Result<
     say_handed(rt, idle, watch::new_beam(idle, serving, list), of_watch)
 }
 
-// Every call on a power record but the lent form of the step, which only a host can call.
+// Every call on a power record but the lent form of the step, which hosts call.
 fn say_power_calls(rt: &impl Print, r: PowerRecord) -> io::Result<()> {
     let p = PowerParameters {
         sqt: 85,
