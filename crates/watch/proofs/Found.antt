@@ -20,7 +20,8 @@ use Rattle.watch_record.proofs.Tracks.{place_among}
 use Rattle.watch_record.proofs.Watched.{place_in, found_place, found_below, found_track}
 
 -- what was sought is sought in the watch itself
-pub sought : (k : ℕ) {s w : Watch} {o r : Option ℕ} → s ≡ w → r ≡ position (has k) (take s.watched s.tracks) → r ≡ o → o ≡ position (has k) (take w.watched w.tracks)
+pub sought : (k : ℕ) {s w : Watch} {o r : Option ℕ} → s ≡ w → r ≡ position (has k) (take s.watched s.tracks) → r ≡ o
+    → o ≡ position (has k) (take w.watched w.tracks)
 sought k e f g = sym g ∙ f ∙ ap (λ (v : Watch). position (has k) (take v.watched v.tracks)) e
 
 module _ (w : Watch) (c : ℕ) (formed : well_formed w ≡ true) where

@@ -30,7 +30,8 @@ track_at d (suc n) c (t ∷ ts) e h =
     by_case (eqb t.channel c)
     (λ q. rw q (ap (λ (k : ℕ). track_of (row k (take t.count t.levels))) (sym (eqb-true t.channel c q))
     ∙ (track_read d t (and_left (track_fine d t) (tracks_fine d n ts) e)).back))
-    (λ q. rw (q, one-more) (track_at d n c ts (and_right (track_fine d t) (tracks_fine d n ts) e) (or_true_right (eqb t.channel c) (mem c (channels_of (take n ts))) h q)))
+    (λ q. rw (q, one-more)
+    (track_at d n c ts (and_right (track_fine d t) (tracks_fine d n ts) e) (or_true_right (eqb t.channel c) (mem c (channels_of (take n ts))) h q)))
 
 -- a place below n is that of a channel among them
 module _ (d n c : ℕ) (ts : List Track) (fine : tracks_fine d n ts ≡ true) where

@@ -17,4 +17,6 @@ returns-in-Some c =
 
 pub returns-in-None : goal.returns-in-None
 returns-in-None c =
-    c.empty.ensures ∙ sym (ap (λ (l : List ℤ). track_of (row c.args.channel l)) (unfound_levels c.args.w.watch.now c.args.channel c.args.w.formed c.in-None.ensures))
+    let w = c.args.w.watch.now in
+    let k = c.args.channel in
+    c.empty.ensures ∙ sym (ap (λ (l : List ℤ). track_of (row k l)) (unfound_levels w k c.args.w.formed c.in-None.ensures))

@@ -42,7 +42,9 @@ loop-level-preserved c =
     let same : c.from.result ≡ x = search rules in
     let ranged : c.contains.result ≡ level_in_range c.from.result = search rules in (
       omega (arith, c.loop-level.invariant.0, ap length step.0, step.1.0, step.1.1),
-      ap₂ (λ (a b : Bool). (ok && (a && (ltb place n || b))) && levels_fine (n - c.next.new.self.b.start) xs) (ranged ∙ ap level_in_range same) (bits_zero x fits)
+      ap₂ (λ (a b : Bool). (ok && (a && (ltb place n || b))) && levels_fine (n - c.next.new.self.b.start) xs)
+          (ranged ∙ ap level_in_range same)
+          (bits_zero x fits)
           ∙ ap (λ (k : ℕ). (ok && (level_in_range x && (ltb place n || is_zero x))) && levels_fine (n - k) xs) step.1.1
           ∙ and_assoc ok (level_in_range x && (ltb place n || is_zero x)) (levels_fine (n - (place + 1)) xs)
           ∙ ap (λ (b : Bool). ok && b) (sym (one-level n place x xs))
