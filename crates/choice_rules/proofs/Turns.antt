@@ -50,9 +50,6 @@ pub record Least (list : List ℕ) (from best i : ℕ) : Type 0 where
 one_more_lem : (j i : ℕ) → j < i + 1 → (j ≡ i) ⊎ (j < i)
 one_more_lem j i h = let g : j ≤ i = omega arith in eq-or-lt_of_le g
 
-pub least_start : (list : List ℕ) (from : ℕ) → Least list from passed 0
-least_start list from = record { low = λ j h g. absurd (not-suc-le-zero h); is = inl (omega arith) }
-
 pub least_turn : {list : List ℕ} {from best i : ℕ} → Least list from best i → i < length list → Least list from (lesser_of from (get_or list i 0) best) (i + 1)
 least_turn {list} {from} {best} {i} L h =
     let k = get_or list i 0 in

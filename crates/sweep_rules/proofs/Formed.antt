@@ -207,6 +207,3 @@ module _ (s : Sweep) where
   -- a channel that is not visited is not heard
   pub not_heard : well_formed s ≡ true → (c : ℕ) → c < channels → visited s c ≡ false → heard s c ≡ false
   not_heard w c l v = fails (heard s c) (λ h. clash ((all_four s w).heard_visited c l h) v)
-
-pub swept_channel : (c : ℕ) → swept c ≡ true → c < channels
-swept_channel c e = let h = leb-true c last_swept (right (leb first_swept c) (leb c last_swept) e) in omega arith

@@ -1,42 +1,21 @@
 -- Laws of a map: its bits word by word, their number, and a map with one bit more. A channel's bit stands in one word, so that a change of
 -- that word changes no other channel's.
-use Prim.Native.Nat.{ℕ, zero, suc, ◌+◌, ◌-◌, ◌*◌, ◌/◌, ◌%◌, ◌^◌, ◌<◌}
-use mathlib.Core.Path.{◌≡◌, refl, sym, ap, ap₂, ◌∙◌, subst}
+use Prim.Native.Nat.{ℕ, suc, ◌+◌, ◌*◌, ◌/◌, ◌%◌, ◌^◌, ◌<◌}
+use mathlib.Core.Path.{◌≡◌, refl, sym, ap, ap₂, ◌∙◌}
 use mathlib.Core.Bool.{Bool, true, false, ◌||◌}
-use mathlib.Core.List.{List, [], ◌∷◌, map}
+use mathlib.Core.List.{List, [], ◌∷◌}
 use mathlib.Core.Logic.{◌⊎◌, inl, inr, ⊎_elim}
 use native.Mathlib.Nat.{zero-add, eq-or-lt_of_le}
 use native.Mathlib.Omega.{arith}
-use lib.ListN.{length, get_or, set, length-map, get_or-map}
+use lib.ListN.{length, get_or, set}
 use lib.Seq.{get_or-set_same, get_or-set_other}
-use lib.Count.{ones, count_trailing_zeros}
-use lib.Dec.{lit<, ltb}
+use lib.Count.{ones}
+use lib.Dec.{ltb}
 use borrow.Author.Tests.{eq-eqb, ne_eqb, ltb-true, ltb-false}
-use mir.Syntax.{w64}
-use mir.Val.{Val}
-use denote.Array.{Array, each}
-use denote.Plain.{UInt}
-use denote.Laws.{Is}
-use denote.Shadow.{shadow}
 use Rattle.sweep_rules.specs.Map.{bit_at, is_set, with_bit, how_many, set_bits}
 use Rattle.sweep_rules.specs.Claims.{ones_of, OnesAreChannels, OneBitSet}
 use Rattle.sweep_rules.proofs.Tests.{which, same_or_not, many_split, many_same}
-use Rattle.sweep_rules.proofs.Words.{ones_bits, set_it, set_below, set_above, run_in_word, run_at_clear}
-
--- ---- the words of an array by value are below 2 ^ 64
-
-each_fit : (xs : List ℕ) (us : List Val) → shadow (each ℕ (UInt w64).own_val xs us) → (i : ℕ) → get_or xs i 0 < 2 ^ 64
-each_fit [] us s i = lit< tt
-each_fit (x ∷ xs) [] s i = absurd s
-each_fit (x ∷ xs) (u ∷ us) s zero = s.0.1
-each_fit (x ∷ xs) (u ∷ us) s (suc i) = each_fit xs us s.1 i
-
-pub words_fit : (n : ℕ) (xs : List ℕ) (vs : List Val) → Is (Array (UInt w64) n) xs vs → (i : ℕ) → get_or xs i 0 < 2 ^ 64
-words_fit n xs vs p i = each_fit xs p.0 p.1.1 i
-
--- the same of an array that is a field of a struct by value, and its length
-pub field_words : (xs : List ℕ) (vs : List Val) → Is (Array (UInt w64) 17) (map (λ v. v) xs) vs → (length xs ≡ 17) × ((i : ℕ) → get_or xs i 0 < 2 ^ 64)
-field_words xs vs p = (sym (length-map xs (λ v. v)) ∙ p.1.0.1, λ i. subst (λ (n : ℕ). n < 2 ^ 64) (get_or-map (λ v. v) xs i 0) (words_fit 17 (map (λ v. v) xs) vs p i))
+use Rattle.sweep_rules.proofs.Words.{ones_bits, set_it, set_below, set_above}
 
 -- ---- the number of set bits
 
@@ -47,33 +26,6 @@ set_in_word m i k h =
     let a : (i * 64 + k) / 64 ≡ i = omega arith in
     let b : (i * 64 + k) % 64 ≡ k = omega arith in
     ap (λ (j : ℕ). bit_at (get_or m j 0) ((i * 64 + k) % 64)) a ∙ ap (bit_at (get_or m i 0)) b
-
--- the set bits from channel c on, in its word
-module _ (m : List ℕ) (c : ℕ) (h : get_or m (c / 64) 0 < 2 ^ 64) where
-  abbrev run : ℕ
-  run = count_trailing_zeros 64 (2 ^ 64 - 1 - get_or m (c / 64) 0 / 2 ^ (c % 64))
-
-  pub set_in_run : (j : ℕ) → j < run → is_set m (c + j) ≡ true
-  unfolding is_set
-  set_in_run j l =
-      let r = run_in_word (get_or m (c / 64) 0) (c % 64) h j l in
-      let s = r.0 in
-      let a : (c + j) / 64 ≡ c / 64 = omega arith in
-      let b : (c + j) % 64 ≡ c % 64 + j = omega arith in
-      ap (λ (i : ℕ). bit_at (get_or m i 0) ((c + j) % 64)) a ∙ ap (bit_at (get_or m (c / 64) 0)) b ∙ r.1
-
-  pub clear_at_none : run ≡ 0 → is_set m c ≡ false
-  unfolding is_set
-  clear_at_none z = run_at_clear (get_or m (c / 64) 0) (c % 64) h z
-
--- one word more
-pub many_word : (m : List ℕ) (i : ℕ) → get_or m i 0 < 2 ^ 64 → how_many ((i + 1) * 64) (is_set m) ≡ how_many (i * 64) (is_set m) + ones (get_or m i 0)
-many_word m i h =
-    let e : (i + 1) * 64 ≡ i * 64 + 64 = omega arith in
-    ap (λ (n : ℕ). how_many n (is_set m)) e
-    ∙ many_split (is_set m) (i * 64) 64
-    ∙ ap (λ (n : ℕ). how_many (i * 64) (is_set m) + n)
-    (many_same (λ c. is_set m (i * 64 + c)) (bit_at (get_or m i 0)) 64 (λ c l. set_in_word m i c l) ∙ ones_bits (get_or m i 0) 64 h)
 
 -- the channels of a map without its first word
 set_in_tail : (w : ℕ) (ws : List ℕ) (c : ℕ) → is_set (w ∷ ws) (64 + c) ≡ is_set ws c
