@@ -14,7 +14,8 @@ use std::array;
 // The most channels of a list: CH.. stands for so many at most.
 pub const LISTED: usize = 8;
 
-// The word at a place as a CH, a BYTE, an INT or a NUM; where it is none, 0.
+// The word at a place as a CH, a BYTE, an INT or a NUM; where it is none, 0. Each kind has the name that the format gives it: a call of one
+// generic function would name a type in its place, and say less.
 pub fn channel_at(line: &[u8], k: usize) -> u16
     ensures { result ≡ CH (words_of line.now) k }
 {
@@ -50,7 +51,7 @@ pub fn heard_at(line: &[u8], place: u32) -> Burst
     })
 }
 
-// The 8 words from a place on, as the channels of a list. A place of 32 bits always has others after it.
+// The 8 words from a place on, as the channels of a list. A place of 32 bits always has others after it. An array, for who takes them by number.
 pub fn channels_at(line: &[u8], place: u32) -> [u16; LISTED]
     ensures { result ≡ listed (words_of line.now) place }
 {
