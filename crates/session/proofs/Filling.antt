@@ -5,7 +5,7 @@ use mathlib.Core.Path.{◌≡◌, refl, sym, ap, ap₂, ◌∙◌}
 use mathlib.Core.Bool.{false, ◌&&◌}
 use mathlib.Core.List.{List, [], ◌++◌, append_assoc}
 use native.Mathlib.Omega.{arith}
-use lib.ListN.{length, take, drop, length-take, length-drop}
+use lib.ListN.{length, take, drop, length-drop}
 use lib.Seq.{paste, take-paste, drop-paste, length-paste, drop-drop, take_all}
 use lib.Dec.{leb, ltb}
 use borrow.Author.Tests.{lt-ltb, le-leb}
@@ -15,11 +15,10 @@ use Rattle.session_words.specs.Words.{between}
 use Rattle.session_words.proofs.Cuts.{to_end}
 use Rattle.session_words.proofs.Lists.{rest-is}
 use Rattle.session_words.specs.Bytes.{newline}
-use Rattle.session_lines.specs.Lines.{longest, kept_of, kept, with_more}
+use Rattle.session_lines.specs.Lines.{kept_of, kept, with_more}
 use Rattle.session_words.specs.Bytes.{fitting}
-use Rattle.session_texts.specs.Text.{room, said}
+use Rattle.session_texts.specs.Text.{room}
 use Rattle.session_lines.specs.declared.Line.{Line}
-use Rattle.session_texts.specs.declared.Text.{Text}
 use Rattle.session.specs.declared.blocks.Session.{Session}
 use Rattle.session.specs.File.{line_written, following}
 use Rattle.session.specs.Reading.{so_far, to_write, GoesOn, Moves}
@@ -32,24 +31,24 @@ module _ (block : List ℕ) {at end : ℕ} (inside : at < length block) (found :
   place = found ∙ ap (λ r. at + index_of newline r) (to_end at block)
 
   -- no newline: all bytes go to the line that has begun
-  pub line_on : (s t : Session) → end ≡ length block → length s.line.bytes ≡ longest → length t.line.bytes ≡ longest
+  pub line_on : (s t : Session) → end ≡ length block
       → kept t.line ≡ with_more (kept s.line) (between block at end) → t.state ≡ s.state → t.number ≡ s.number
       → GoesOn s (drop at block) [] t (drop (end - at) (drop at block))
-  line_on s t e h j m a n =
+  line_on s t e m a n =
       let size = length-drop at block in
       let all : between block at end ≡ drop at block = ap (λ k. take (k - at) (drop at block)) e ∙ rest-is block at in
-      goes_on s t (drop at block) [] (end - at) refl h j (m ∙ ap (with_more (kept s.line)) all) a n (omega (arith, place, size, e)) (omega (arith, size, e))
+      goes_on s t (drop at block) [] (end - at) refl (m ∙ ap (with_more (kept s.line)) all) a n (omega (arith, place, size, e)) (omega (arith, size, e))
 
   -- a newline: the line m has ended, and is answered
-  pub line_ends : (s t : Session) (m : Line) (text : List ℕ) → end < length block → length s.line.bytes ≡ longest → length m.bytes ≡ longest
-      → length t.line.bytes ≡ longest → kept m ≡ with_more (kept s.line) (between block at end) → kept t.line ≡ kept_of []
+  pub line_ends : (s t : Session) (m : Line) (text : List ℕ) → end < length block
+      → kept m ≡ with_more (kept s.line) (between block at end) → kept t.line ≡ kept_of []
       → text ≡ (line_written s.number s.state (so_far m)).text → t.state ≡ (line_written s.number s.state (so_far m)).state
       → t.number ≡ following s.number → GoesOn s (drop at block) text t (drop (end + 1 - at) (drop at block))
-  line_ends s t m text e h j l k b w a n =
+  line_ends s t m text e k b w a n =
       let size = length-drop at block in
       let i : end - at ≡ index_of newline (drop at block) = omega (arith, place) in
       let q : end + 1 - at ≡ suc (index_of newline (drop at block)) = omega (arith, place) in
-      ends s t m (drop at block) text (end + 1 - at) w q h j l (k
+      ends s t m (drop at block) text (end + 1 - at) w q (k
       ∙ ap (λ x. with_more (kept s.line) (take x (drop at block))) i) b a n (omega (arith, place, size, e))
 
 -- ---- the buffer `out`, of which `used` bytes are answers, once `at` bytes of the block were taken
@@ -58,25 +57,20 @@ pub record Filling (s₀ : Session) (block out₀ out : List ℕ) (s : Session) 
   pub within : at ≤ length block
   pub fits : used ≤ length out
   pub same : length out ≡ length out₀
-  pub long : length s.line.bytes ≡ longest
   pub rest : GoesOn s₀ block (take used out) s (drop at block)
   pub beyond : drop used out ≡ drop used out₀
   pub begins : at ≡ 0 → used ≡ 0
 
-pub filling_begins : (s : Session) (block out : List ℕ) → length s.line.bytes ≡ longest → Filling s block out out s 0 0
-filling_begins s block out h =
-    record { within = omega arith; fits = omega arith; same = refl; long = h; rest = λ more. refl; beyond = refl; begins = λ e. refl }
-
--- no text is longer than its room
-pub text_fits : (t : Text) → length t.bytes ≡ room → length (said t) ≤ room
-text_fits t h = let k = length-take t.length t.bytes in omega (arith, k, h)
+pub filling_begins : (s : Session) (block out : List ℕ) → Filling s block out out s 0 0
+filling_begins s block out =
+    record { within = omega arith; fits = omega arith; same = refl; rest = λ more. refl; beyond = refl; begins = λ e. refl }
 
 module _ {s₀ s : Session} {block out₀ out : List ℕ} {at used : ℕ} (f : Filling s₀ block out₀ out s at used) where
   -- k bytes more, of which a text is to be written
   pub filling_on : (t : Session) (text : List ℕ) {out' : List ℕ} {at' used' : ℕ} (k : ℕ) → at' ≡ at + k → 0 < k → at + k ≤ length block
-      → room ≤ length out - used → length text ≤ room → length t.line.bytes ≡ longest → GoesOn s (drop at block) text t (drop k (drop at block))
+      → room ≤ length out - used → length text ≤ room → GoesOn s (drop at block) text t (drop k (drop at block))
       → used' ≡ used + fitting text out used → out' ≡ paste out used text (fitting text out used) → Filling s₀ block out₀ out' t at' used'
-  filling_on t text {out'} {at'} {used'} k on some few r l long goes u p =
+  filling_on t text {out'} {at'} {used'} k on some few r l goes u p =
       let n : fitting text out used ≡ length text = omega (arith, r, l) in
       let e : used' ≡ used + length text = u ∙ ap (λ x. used + x) n in
       let q : out' ≡ paste out used text (length text) = p ∙ ap (paste out used text) n in
@@ -91,7 +85,6 @@ module _ {s₀ s : Session} {block out₀ out : List ℕ} {at used : ℕ} (f : F
         within = omega (arith, on, few);
         fits = omega (arith, e, m, b);
         same = m ∙ f.same;
-        long = long;
         rest = λ more.
             f.rest more
             ∙ ap (λ z. take used out ++ z) (goes more)

@@ -6,7 +6,7 @@ use mathlib.Core.Bool.{Bool, true, false, cond}
 use mathlib.Core.List.{List, [], ◌∷◌, ◌++◌}
 use native.Mathlib.Omega.{arith}
 use lib.ListN.{length, take, length-append}
-use lib.Seq.{take_all, take_at, length-take-le}
+use lib.Seq.{take_all}
 use lib.Dec.{eqb, leb}
 use borrow.Author.Tests.{leb-true, leb-false, lt-ltb}
 use Rattle.session_words.proofs.Lists.{take_again, cond-true}
@@ -24,19 +24,9 @@ same_kept : {m n : ℕ} {s t : List ℕ} → m ≡ n → s ≡ t → ◌≡◌ {
 same_kept p q i = record { size = p i; first = q i }
 
 -- of the line that the code holds
-pub kept_so_far : (l : Line) → length l.bytes ≡ longest → kept_of (so_far l) ≡ kept l
+pub kept_so_far : (l : Line) → kept_of (so_far l) ≡ kept l
 unfolding so_far
-kept_so_far l h = long (leb l.length longest) refl
-  where
-    long : (x : Bool) → leb l.length longest ≡ x → kept_of (cond x (take l.length l.bytes) (l.bytes ++ (0 ∷ []))) ≡ kept l
-    long true e =
-        let k : l.length ≤ longest = leb-true _ _ e in
-        let n : length (take l.length l.bytes) ≡ l.length = length-take-le l.length l.bytes (omega arith) in
-        same_kept (ap (λ x. min x (suc longest)) n) (take_all longest (take l.length l.bytes) (omega arith))
-    long false e =
-        let k : longest < l.length = leb-false _ _ e in
-        let n : length (l.bytes ++ (0 ∷ [])) ≡ length l.bytes + 1 = length-append l.bytes (0 ∷ []) in
-        same_kept (omega arith) (take_at l.bytes (0 ∷ []) longest h ∙ sym (take_all l.length l.bytes (omega arith)))
+kept_so_far l = refl
 
 -- of a line with more bytes
 pub kept_more : (s bs : List ℕ) → kept_of (s ++ bs) ≡ with_more (kept_of s) bs

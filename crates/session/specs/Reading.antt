@@ -1,26 +1,30 @@
 -- A session file that is read in blocks: what a block writes, and what is still to be written.
-use Rattle.std.specs.Prelude.{ℕ, suc, ◌≤◌, ◌<◌, ◌≡◌, cond, List, [], ◌∷◌, ◌++◌, length, take, leb, ltb}
+use Rattle.std.specs.Prelude.{ℕ, ◌≤◌, ◌<◌, ◌≡◌, cond, List, [], ◌++◌, length, ltb}
 use Rattle.session_words.specs.Words.{words_of}
 use Rattle.session_lines.specs.Lines.{longest, passed_over, lines_after}
 use Rattle.session_texts.specs.Text.{room}
 use Rattle.session_lines.specs.declared.Line.{Line}
 use Rattle.session_state.specs.declared.State.{State}
-use Rattle.session_rows.specs.Calls.{Written, only}
-use Rattle.session_rows.specs.Table.{rows, row_of, row_written}
+use Rattle.session_rows.specs.Calls.{Written, only, malformed}
+use Rattle.session_rows.specs.Table.{row_written, line_asked}
+use Rattle.session.specs.declared.lines.Kind.{Kind}
+use Rattle.session.specs.declared.lines.Kind.TheVariants.{PassedOver, NoCall, Call}
 use Rattle.session.specs.declared.blocks.Session.{Session}
 use Rattle.session.specs.File.{answers_from, answers_of}
 
--- the bytes of the line that has begun. Of one that is too long to be a call its first bytes are kept, and one byte stands for all others
+-- the bytes of the line that has begun, as far as they are kept: of one that is too long to be a call its first bytes, one more than the longest
 unfoldable pub so_far : Line → List ℕ
-so_far l = cond (leb l.length longest) (take l.length l.bytes) (l.bytes ++ (0 ∷ []))
+so_far l = l.bytes.items
 
--- the row of a line, by its length and its first bytes: the number of rows for one that is no call, and one more where it is passed over
-unfoldable pub row_held : ℕ → List ℕ → ℕ
-row_held size held = cond (passed_over held) (suc rows) (cond (ltb longest size) rows (row_of (words_of held)))
+-- what a line does and writes, by its length and its first bytes
+unfoldable pub kept_written : ℕ → List ℕ → ℕ → State → Written
+kept_written size held n s = cond (passed_over held) (only s []) (cond (ltb longest size) (malformed n s) (line_asked n s held))
 
--- what a line does by its row, and writes
-unfoldable pub held_written : ℕ → ℕ → State → List ℕ → Written
-held_written k n s held = cond (ltb rows k) (only s []) (row_written k n s (words_of held))
+-- what it does and writes by its kind
+abbrev pub kind_written : Kind → ℕ → State → List ℕ → Written
+kind_written PassedOver n s held = only s []
+kind_written NoCall n s held = malformed n s
+kind_written (Call k) n s held = row_written k n s (words_of held)
 
 -- what is still to be written, where these bytes follow up to the end of the file
 unfoldable pub to_write : Session → List ℕ → List ℕ

@@ -3,17 +3,15 @@ ghost use Rattle.std.specs.Prelude.{◌≡◌, [], ◌≤◌, length, take, drop
 ghost use Rattle.session_texts.specs.Text.{said};
 ghost use Rattle.session.specs.Reading.{to_write, Unread, GoesOn, Moves};
 
-use crate::lines::{answer, next_number, row_of};
+use crate::lines::{answer, next_number};
 use byte_scan::find;
-use session_answers::of_watch;
-use session_lines::{LONGEST, Line, blank, with_more};
+use session_lines::Line;
 use session_state::State;
-use session_texts::{ROOM, Text, put};
-use session_watch::{WATCH_ROWS, watch_row};
-use session_words::{NEWLINE, least};
+use session_texts::{ROOM, Text};
+use session_words::NEWLINE;
 
 // A session file as far as it was read: the state, the line that has begun, and that line's number, from 1.
-#[derive(Clone, Copy)]
+#[derive(Drop)]
 pub struct Session {
     pub state: State,
     pub line: Line,
@@ -21,7 +19,7 @@ pub struct Session {
 }
 
 // A session after some bytes of a block: how many of these were taken, and how many bytes of the buffer are answers.
-#[derive(Clone, Copy)]
+#[derive(Drop)]
 pub struct Progress {
     pub session: Session,
     pub taken: usize,
@@ -34,13 +32,12 @@ pub fn begin() -> Session
 {
     Session {
         state: session_state::start(),
-        line: blank(),
+        line: Line::blank(),
         number: 1,
     }
 }
 
-// Answers lines of a block until it ends or the buffer has no room for one more answer. Of the state only the record is written back that a
-// call on the watch changed, since these are the most.
+// Answers lines of a block until it ends or the buffer has no room for one more answer.
 pub fn answer_block(session: Session, block: &[u8], out: &mut [u8]) -> Progress
     ensures rest { GoesOn session block.now (take result.written out.new) result.session (drop result.taken block.now) }
     ensures beyond { drop result.written out.new ≡ drop result.written out.old }
@@ -56,29 +53,16 @@ pub fn answer_block(session: Session, block: &[u8], out: &mut [u8]) -> Progress
     let mut used = 0;
     while (at < block.len()) & (ROOM <= out.len() - used) {
         let end = find(block, at, block.len(), NEWLINE);
-        line = with_more(line, &block[at..end]);
+        line.push(&block[at..end]);
         if end == block.len() {
             at = end;
             continue;
         }
-        let bytes = line.bytes;
-        let held = &bytes[..least(line.length, LONGEST)];
-        let row = row_of(line.length, held);
-        let this = number;
-        line.length = 0;
-        number = next_number(this);
         at = end + 1;
-        if row < WATCH_ROWS {
-            let handed = watch_row(state.watch, row, held);
-            let after = handed.watch;
-            state.watch = after;
-            let told = handed.answer;
-            used = put(out, used, of_watch(told));
-        } else {
-            let a = answer(state, this, row, held);
-            state = a.state;
-            used = put(out, used, a.text);
-        }
+        let this = number;
+        number = next_number(this);
+        used = answer(&mut state, this, &line).put(out, used);
+        line = Line::blank();
     }
     Progress {
         session: Session {
@@ -95,10 +79,6 @@ pub fn answer_block(session: Session, block: &[u8], out: &mut [u8]) -> Progress
 pub fn finish(session: Session) -> Text
     ensures { said result ≡ to_write session [] }
 {
-    let line = session.line;
-    let bytes = line.bytes;
-    let held = &bytes[..least(line.length, LONGEST)];
-    let row = row_of(line.length, held);
-    let last = answer(session.state, session.number, row, held);
-    last.text
+    let mut state = session.state;
+    answer(&mut state, session.number, &session.line)
 }

@@ -1,56 +1,63 @@
-// A line that has ended: which row of the table it has, and what the calls that are not on the watch do.
-ghost use Rattle.std.specs.Prelude.{◌≡◌};
-ghost use Rattle.session_rows.specs.Calls.{told_answered};
-ghost use Rattle.session.specs.File.{following};
-ghost use Rattle.session.specs.Reading.{row_held, held_written};
+// A line that has ended: what it is, and what it does and writes.
+ghost use Rattle.std.specs.Prelude.{◌≡◌, ℕ};
+ghost use Rattle.session_state.specs.declared.State.{State};
+ghost use Rattle.session_texts.specs.Text.{said};
+ghost use Rattle.session_rows.specs.Calls.{only};
+ghost use Rattle.session.specs.File.{line_written, following};
+ghost use Rattle.session.specs.Reading.{so_far, kept_written, kind_written};
 
-use session_lines::LONGEST;
-use session_rows::{Answered, ROWS, make};
+use session_answers::of_error;
+use session_lines::{LONGEST, Line};
+use session_rows::make;
 use session_state::State;
-use session_texts::nothing;
+use session_texts::Text;
 
 // What a comment begins with.
 const HASH: u8 = b'#';
 
-// Stands for the row of a line that is passed over.
-const PASSED_OVER: usize = ROWS + 1;
+// A line is passed over, or is none of the calls, or has this row of the table.
+#[derive(Clone, Copy)]
+enum Kind {
+    PassedOver,
+    NoCall,
+    Call(usize),
+}
 
 // The number of the line after this one; the last of 64 bits stays.
+#[tactic(auto, unfolding(crate::specs::File::following))]
 pub fn next_number(number: u64) -> u64
     ensures { result ≡ following number }
 {
-    if number == u64::MAX {
-        number
-    } else {
-        number + 1
-    }
+    number.saturating_add(1)
 }
 
-// The row that a line has, by its length and its first bytes.
-pub fn row_of(length: usize, held: &[u8]) -> usize
-    ensures { result ≡ row_held length held.now }
+// What a line is, by its length and its first bytes.
+fn kind_of(length: usize, held: &[u8]) -> Kind
+    ensures { (n : ℕ) (s : State) → kind_written result n s held.now ≡ kept_written length held.now n s }
 {
-    if held.len() == 0 {
-        return PASSED_OVER;
+    if held.is_empty() {
+        return Kind::PassedOver;
     }
     if held[0] == HASH {
-        return PASSED_OVER;
+        return Kind::PassedOver;
     }
     if length > LONGEST {
-        return ROWS;
+        return Kind::NoCall;
     }
-    session_rows::row_of(held)
+    match session_rows::row_of(held) {
+        Some(row) => Kind::Call(row),
+        None => Kind::NoCall,
+    }
 }
 
-// What a line does by its row, and writes.
-pub fn answer(state: State, number: u64, row: usize, held: &[u8]) -> Answered
-    ensures { told_answered result ≡ held_written row number state held.now }
+// Does what the line that has ended asks for, and writes its answer.
+pub fn answer(state: &mut State, number: u64, line: &Line) -> Text
+    ensures { only state.new (said result) ≡ line_written number state.old (so_far line.now) }
 {
-    if row > ROWS {
-        return Answered {
-            state,
-            text: nothing(),
-        };
+    let held = line.first();
+    match kind_of(line.size(), held) {
+        Kind::PassedOver => Text::new(),
+        Kind::NoCall => of_error(number),
+        Kind::Call(row) => make(state, number, row, held),
     }
-    make(state, number, row, held)
 }

@@ -135,37 +135,33 @@ fn reading_row(number: u64, row: usize, line: &[u8]) -> Text
     }
 }
 
-// Makes the call of a row with the words of a line; the line is the one of this number in the file. Beyond the last row there is no call.
-pub fn make(mut state: State, number: u64, row: usize, line: &[u8]) -> Answered<State>
-    ensures { told_answered result ≡ row_written row number state (words_of line.now) }
+// Makes the call of a row with the words of a line, and writes its answer; the line is the one of this number in the file. Beyond the last row
+// there is no call. Of the state only the record is written back that a call on the watch or on the sweep changed, since these are the most.
+pub fn make(state: &mut State, number: u64, row: usize, line: &[u8]) -> Text
+    ensures { only state.new (said result) ≡ row_written row number state.old (words_of line.now) }
 {
     if row < WATCH_ROWS {
         let handed = watch_row(state.watch, row, line);
         state.watch = handed.state;
-        return Answered {
-            state,
-            text: of_watch(handed.answer),
-        };
+        return of_watch(handed.answer);
     }
     let row = row - WATCH_ROWS;
     if row < SWEEP_ROWS {
         let answered = sweep_row(state.sweep, row, line);
         state.sweep = answered.state;
-        return Answered {
-            state,
-            text: answered.text,
-        };
+        return answered.text;
     }
     let row = row - SWEEP_ROWS;
     if row < CHOICE_ROWS {
-        return choice_row(state, number, row, line);
+        let answered = choice_row(*state, number, row, line);
+        *state = answered.state;
+        return answered.text;
     }
     let row = row - CHOICE_ROWS;
     if row < POWER_ROWS {
-        return power_row(state, number, row, line);
+        let answered = power_row(*state, number, row, line);
+        *state = answered.state;
+        return answered.text;
     }
-    Answered {
-        state,
-        text: reading_row(number, row - POWER_ROWS, line),
-    }
+    reading_row(number, row - POWER_ROWS, line)
 }

@@ -30,7 +30,7 @@ pub fn watch_row(watch: Watch, row: usize, line: &[u8]) -> Handed<Watch, Answer>
         3 => watch::verdict(watch, int_at(line, 1)),
         4 => watch::start(watch, channel_at(line, 1), RECORDED_DEPTH),
         5 => watch::start(watch, channel_at(line, 1), usize::from(byte_at(line, 2))),
-        6 => watch::new_beam(watch, channel_at(line, 1), &list_at(line, 2)),
+        6 => watch::new_beam(watch, channel_at(line, 1), list_at(line, 2).as_slice()),
         _ => watch::verdict(watch, 0),
     }
 }

@@ -61,7 +61,7 @@ returns-in-5 c =
 pub returns-in-6 : goal.returns-in-6
 unfolding watch_rows
 returns-in-6 c =
-    c.new_beam.ensures ∙ ap₂ (λ n ns. called c.args.watch (new_beam n ns)) c.channel_at-in-6.ensures (c.deref.ensures.0 ∙ c.list_at.ensures)
+    c.new_beam.ensures ∙ ap₂ (λ n ns. called c.args.watch (new_beam n ns)) c.channel_at-in-6.ensures (c.as_slice.ensures.value ∙ c.list_at.ensures)
     ∙ is c.args.watch c.args.line.now c.in-6.is
 
 pub returns-in_default : goal.returns-in_default

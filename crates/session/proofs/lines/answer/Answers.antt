@@ -1,21 +1,22 @@
--- `session::lines::answer` meets its contract: a row beyond all stands for a line that is passed over.
-use Rattle.std.proofs.Common.{◌≤◌, ◌<◌, sym, ap, subst, ◌∙◌}
-use borrow.Author.Tests.{lt-ltb, le-ltb}
-use Rattle.session_words.proofs.Lists.{cond-true, cond-false}
+-- `session::lines::answer` meets its contract: by the kind of the line (`Ended`).
+use Rattle.std.proofs.Common.{ap, ◌∙◌}
 use Rattle.session_rows.specs.Calls.{only}
-use Rattle.session_rows.specs.Table.{rows}
-use Rattle.session_rows.proofs.Parts.{rows_are}
-use Rattle.session.specs.Reading.{held_written}
+use Rattle.session.specs.declared.lines.Kind.TheVariants.{PassedOver, NoCall, Call}
+use Rattle.session.proofs.Ended.{line_done}
 use Rattle.session.proofs.lines.answer.Goals as goal
 
-pub returns-then-row-gt-ROWS : goal.returns-then-row-gt-ROWS
-unfolding held_written
-returns-then-row-gt-ROWS c =
-    let a = c.args in
-    ap (only a.state) c.nothing.ensures ∙ sym (cond-true _ _ (lt-ltb rows a.row (subst (λ r. r < a.row) rows_are c.if-row-gt-ROWS.true)))
+pub returns-in-PassedOver : goal.returns-in-PassedOver
+returns-in-PassedOver c =
+    let st = c.args.state.now in
+    ap (only st) c.new.ensures
+    ∙ line_done c.args.number st c.args.line.now PassedOver c.size.ensures c.first-held.ensures c.in-PassedOver.ensures
 
-pub returns : goal.returns
-unfolding held_written
-returns c =
-    let a = c.args in
-    c.make.ensures ∙ sym (cond-false _ _ (le-ltb rows a.row (subst (λ r. a.row ≤ r) rows_are c.if-row-gt-ROWS.false)))
+pub returns-in-NoCall : goal.returns-in-NoCall
+returns-in-NoCall c =
+    let st = c.args.state.now in
+    ap (only st) c.of_error.ensures ∙ line_done c.args.number st c.args.line.now NoCall c.size.ensures c.first-held.ensures c.in-NoCall.ensures
+
+pub returns-in-Call : goal.returns-in-Call
+returns-in-Call c =
+    c.make.ensures
+    ∙ line_done c.args.number c.args.state.now c.args.line.now (Call c.in-Call.row) c.size.ensures c.first-held.ensures c.in-Call.ensures

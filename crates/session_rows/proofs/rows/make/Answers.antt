@@ -13,16 +13,18 @@ pub returns-then-row-lt-WATCH_ROWS : goal.returns-then-row-lt-WATCH_ROWS
 unfolding watch_rows handed_over
 returns-then-row-lt-WATCH_ROWS c =
     let a = c.args in
-    (λ i. record { state = with_watch a.state c.watch_row-handed.result.state; text = c.of_watch.ensures i })
-    ∙ ap (handed_over a.state) c.watch_row-handed.ensures
-    ∙ on_watch_lem a.number a.state (words_of a.line.now) c.if-row-lt-WATCH_ROWS.true
+    let st = a.state.now in
+    (λ i. record { state = with_watch st c.watch_row-handed.result.state; text = c.of_watch.ensures i })
+    ∙ ap (handed_over st) c.watch_row-handed.ensures
+    ∙ on_watch_lem a.number st (words_of a.line.now) c.if-row-lt-WATCH_ROWS.true
 
 pub returns-then-row-lt-SWEEP_ROWS : goal.returns-then-row-lt-SWEEP_ROWS
 unfolding watch_rows sweep_rows sweep_handed_over
 returns-then-row-lt-SWEEP_ROWS c =
     let a = c.args in
-    ap (sweep_handed_over a.state) c.sweep_row-answered.ensures
-    ∙ on_sweep_lem a.number a.state (words_of a.line.now) c.if-row-lt-WATCH_ROWS.false c.if-row-lt-SWEEP_ROWS.true
+    let st = a.state.now in
+    ap (sweep_handed_over st) c.sweep_row-answered.ensures
+    ∙ on_sweep_lem a.number st (words_of a.line.now) c.if-row-lt-WATCH_ROWS.false c.if-row-lt-SWEEP_ROWS.true
 
 -- a row after those on the watch, on the sweep and of the choice
 past_choice : (n : ℕ) (s : State) (ws : List (List ℕ)) {k : ℕ} → length watch_rows ≤ k → length sweep_rows ≤ k - length watch_rows
@@ -34,22 +36,25 @@ pub returns-then-row-lt-CHOICE_ROWS : goal.returns-then-row-lt-CHOICE_ROWS
 unfolding watch_rows sweep_rows choice_rows
 returns-then-row-lt-CHOICE_ROWS c =
     let a = c.args in
-    c.choice_row.ensures
-    ∙ within a.number a.state (words_of a.line.now) choice_rows (power_rows ++ reading_rows) c.if-row-lt-CHOICE_ROWS.true
-    ∙ past_sweep a.number a.state (words_of a.line.now) c.if-row-lt-WATCH_ROWS.false c.if-row-lt-SWEEP_ROWS.false
+    let st = a.state.now in
+    c.choice_row-answered.ensures
+    ∙ within a.number st (words_of a.line.now) choice_rows (power_rows ++ reading_rows) c.if-row-lt-CHOICE_ROWS.true
+    ∙ past_sweep a.number st (words_of a.line.now) c.if-row-lt-WATCH_ROWS.false c.if-row-lt-SWEEP_ROWS.false
 
 pub returns-then-row-lt-POWER_ROWS : goal.returns-then-row-lt-POWER_ROWS
 unfolding watch_rows sweep_rows choice_rows power_rows
 returns-then-row-lt-POWER_ROWS c =
     let a = c.args in
-    c.power_row.ensures
-    ∙ within a.number a.state (words_of a.line.now) power_rows reading_rows c.if-row-lt-POWER_ROWS.true
-    ∙ past_choice a.number a.state (words_of a.line.now) c.if-row-lt-WATCH_ROWS.false c.if-row-lt-SWEEP_ROWS.false c.if-row-lt-CHOICE_ROWS.false
+    let st = a.state.now in
+    c.power_row-answered.ensures
+    ∙ within a.number st (words_of a.line.now) power_rows reading_rows c.if-row-lt-POWER_ROWS.true
+    ∙ past_choice a.number st (words_of a.line.now) c.if-row-lt-WATCH_ROWS.false c.if-row-lt-SWEEP_ROWS.false c.if-row-lt-CHOICE_ROWS.false
 
 pub returns : goal.returns
 unfolding watch_rows sweep_rows choice_rows power_rows
 returns c =
     let a = c.args in
-    c.reading_row.ensures a.state
-    ∙ after a.number a.state (words_of a.line.now) power_rows reading_rows c.if-row-lt-POWER_ROWS.false
-    ∙ past_choice a.number a.state (words_of a.line.now) c.if-row-lt-WATCH_ROWS.false c.if-row-lt-SWEEP_ROWS.false c.if-row-lt-CHOICE_ROWS.false
+    let st = a.state.now in
+    c.reading_row.ensures st
+    ∙ after a.number st (words_of a.line.now) power_rows reading_rows c.if-row-lt-POWER_ROWS.false
+    ∙ past_choice a.number st (words_of a.line.now) c.if-row-lt-WATCH_ROWS.false c.if-row-lt-SWEEP_ROWS.false c.if-row-lt-CHOICE_ROWS.false
