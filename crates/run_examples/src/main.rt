@@ -12,12 +12,14 @@ use session_answers::{
 use session_texts::Text;
 use session_values::{LISTED, channel_at, channels_at, int_at, num_at};
 use session_words::{NEWLINE, word};
-use std::io::{self, Read};
 use sweep::{CHANNELS, Sweep};
 use watch_rules::{CAPACITY, ROOM, Watch};
 
-// No more bytes of the table are read.
-const TABLE_ROOM: u64 = 65_536;
+// The system's numbers of the standard streams. The proof assumes two C functions, `read` and `write`, and no other; a failed write is passed
+// over, and the next case is written.
+const STDIN_FILENO: i32 = 0;
+
+const STDOUT_FILENO: i32 = 1;
 
 // Begins a comment, which goes to the end of its line.
 const COMMENT: u8 = b'#';
@@ -25,71 +27,79 @@ const COMMENT: u8 = b'#';
 // The depth of document 01's examples.
 const DEPTH: usize = 15;
 
+fn write(bytes: &[u8]) {
+    io::write_all(STDOUT_FILENO, bytes);
+}
+
 // An answer, without its newline.
-fn say(rt: &impl Print, answer: Text) -> io::Result<()> {
+fn say(answer: Text) {
     let line = answer.as_bytes();
-    rt.write_all(b" | ")?;
-    rt.write_all(line.strip_suffix(&[NEWLINE]).unwrap_or(line))
+    write(b" | ");
+    write(line.strip_suffix(&[NEWLINE]).unwrap_or(line));
 }
 
 // The answer of a call on a record, and whether the record beside it is the one that was given.
-fn say_handed<R, A, F>(
-    rt: &impl Print,
-    given: R,
-    handed: Handed<R, A>,
-    text_of: F,
-) -> io::Result<()>
+fn say_handed<R, A, F>(given: R, handed: Handed<R, A>, text_of: F)
 where
     R: PartialEq + Drop,
     F: FnOnce(Result<A, Refusal>) -> Text,
     requires { F.pre text_of handed.answer }
 {
     let unchanged = handed.state == given;
-    say(rt, text_of(handed.answer))?;
-    rt.print(if unchanged { ", same" } else { ", changed" })
+    say(text_of(handed.answer));
+    write(if unchanged { b", same" } else { b", changed" });
 }
 
 fn heard(level: f32, quality: f32) -> Burst {
     Burst::Heard(Reading { level, quality })
 }
 
-fn say_burst(rt: &impl Print, burst: Burst) -> io::Result<()> {
+fn of_burst(burst: Burst) -> Text {
     match readings::burst_to_hundredths(burst) {
         Ok(Burst::Heard(Reading { level, quality })) => {
-            print!(rt; " | level {level} quality {quality}")
+            let mut text = Text::new();
+            text.push(b"level ");
+            text.push_signed(level);
+            text.push(b" quality ");
+            text.push_signed(quality);
+            text
         }
-        Ok(Burst::Missed) => print!(rt; " | missed"),
-        Err(why) => say(rt, of_outcome(Err(why))),
+        Ok(Burst::Missed) => {
+            let mut text = Text::new();
+            text.push(b"missed");
+            text
+        }
+        Err(why) => of_outcome(Err(why)),
     }
 }
 
 // A float as a level and as a quality, alone and in a burst.
-fn say_float(rt: &impl Print, x: f32) -> io::Result<()> {
-    say(rt, of_hundredths(readings::level_to_hundredths(x)))?;
-    say(rt, of_hundredths(readings::quality_to_hundredths(x)))?;
-    say_burst(rt, heard(x, 9.5))?;
-    say_burst(rt, heard(-71.25, x))
+fn say_float(x: f32) {
+    say(of_hundredths(readings::level_to_hundredths(x)));
+    say(of_hundredths(readings::quality_to_hundredths(x)));
+    say(of_burst(heard(x, 9.5)));
+    say(of_burst(heard(-71.25, x)));
 }
 
 // Hundredths shown as a level and as a quality, and each read back.
-fn say_hundredths(rt: &impl Print, h: i32) -> io::Result<()> {
-    say(rt, of_float(readings::level_to_float(h)))?;
-    say(rt, of_float(readings::quality_to_float(h)))?;
-    say(rt, of_hundredths(readings::level_read_back(h)))?;
-    say(rt, of_hundredths(readings::quality_read_back(h)))
+fn say_hundredths(h: i32) {
+    say(of_float(readings::level_to_float(h)));
+    say(of_float(readings::quality_to_float(h)));
+    say(of_hundredths(readings::level_read_back(h)));
+    say(of_hundredths(readings::quality_read_back(h)));
 }
 
-fn say_choice(rt: &impl Print, s: Sweep, outcomes: &[u8]) -> io::Result<()> {
-    say_handed(rt, s, choice::choose(s, 300, outcomes), of_choice)
+fn say_choice(s: Sweep, outcomes: &[u8]) {
+    say_handed(s, choice::choose(s, 300, outcomes), of_choice);
 }
 
 // Every call on a sweep.
-fn say_sweep_calls(rt: &impl Print, s: Sweep) -> io::Result<()> {
-    say_handed(rt, s, sweep::check(s), of_outcome)?;
-    say_handed(rt, s, sweep::file(s, 300, heard(-90.0, 10.0)), of_outcome)?;
-    say_handed(rt, s, sweep::next(s), of_next)?;
-    say_handed(rt, s, sweep::counts(s), of_counts)?;
-    say_choice(rt, s, &[0; CHANNELS])
+fn say_sweep_calls(s: Sweep) {
+    say_handed(s, sweep::check(s), of_outcome);
+    say_handed(s, sweep::file(s, 300, heard(-90.0, 10.0)), of_outcome);
+    say_handed(s, sweep::next(s), of_next);
+    say_handed(s, sweep::counts(s), of_counts);
+    say_choice(s, &[0; CHANNELS]);
 }
 
 // A word of a map, with a channel's bit set or cleared.
@@ -122,26 +132,26 @@ fn finished() -> Sweep {
 }
 
 // So many outcome bytes, all 0 but those of the channels 0 and 1,087.
-fn say_outcomes_case(rt: &impl Print, n: [u16; LISTED]) -> io::Result<()> {
+fn say_outcomes_case(n: [u16; LISTED]) {
     let mut outcomes = [0; 1089];
     outcomes[0] = (n[1] % 256) as u8;
     outcomes[1087] = (n[2] % 256) as u8;
     match outcomes.get(..usize::from(n[0])) {
-        Some(outcomes) => say_choice(rt, finished(), outcomes),
-        None => Ok(()),
+        Some(outcomes) => say_choice(finished(), outcomes),
+        None => {}
     }
 }
 
 // Every call on a watch, and a start whose channel and depth are both out of range.
-fn say_watch_calls(rt: &impl Print, w: Watch) -> io::Result<()> {
-    say_handed(rt, w, watch::check(w), of_watch)?;
-    say_handed(rt, w, watch::start(w, 500, DEPTH), of_watch)?;
-    say_handed(rt, w, watch::start(w, 1088, 4), of_watch)?;
-    say_handed(rt, w, watch::new_beam(w, 100, &[300, 200]), of_watch)?;
-    say_handed(rt, w, watch::new_beam(w, 200, &[100, 300]), of_watch)?;
-    say_handed(rt, w, watch::file(w, 100, heard(-90.0, 10.0)), of_watch)?;
-    say_handed(rt, w, watch::ask(w, 100), of_watch)?;
-    say_handed(rt, w, watch::verdict(w, 299), of_watch)
+fn say_watch_calls(w: Watch) {
+    say_handed(w, watch::check(w), of_watch);
+    say_handed(w, watch::start(w, 500, DEPTH), of_watch);
+    say_handed(w, watch::start(w, 1088, 4), of_watch);
+    say_handed(w, watch::new_beam(w, 100, &[300, 200]), of_watch);
+    say_handed(w, watch::new_beam(w, 200, &[100, 300]), of_watch);
+    say_handed(w, watch::file(w, 100, heard(-90.0, 10.0)), of_watch);
+    say_handed(w, watch::ask(w, 100), of_watch);
+    say_handed(w, watch::verdict(w, 299), of_watch);
 }
 
 fn filed(mut w: Watch, channel: u16, level: f32, times: usize) -> Watch {
@@ -188,18 +198,18 @@ fn watched(mut w: Watch, n: [u16; LISTED], level: i32) -> Watch {
 }
 
 // A new beam with the first n[0] of the other numbers as its list, on the watch that 100 serves and on an idle one.
-fn say_beam_case(rt: &impl Print, serving: u16, n: [u16; LISTED]) -> io::Result<()> {
+fn say_beam_case(serving: u16, n: [u16; LISTED]) {
     let Some(list) = n[1..].get(..usize::from(n[0])) else {
-        return Ok(());
+        return;
     };
     let w = watch_of(b"sound");
-    say_handed(rt, w, watch::new_beam(w, serving, list), of_watch)?;
+    say_handed(w, watch::new_beam(w, serving, list), of_watch);
     let idle = watch::fresh();
-    say_handed(rt, idle, watch::new_beam(idle, serving, list), of_watch)
+    say_handed(idle, watch::new_beam(idle, serving, list), of_watch);
 }
 
 // Every call on a power record but the lent form of the step, which hosts call.
-fn say_power_calls(rt: &impl Print, r: PowerRecord) -> io::Result<()> {
+fn say_power_calls(r: PowerRecord) {
     let p = PowerParameters {
         sqt: 85,
         paninit: 30,
@@ -210,52 +220,52 @@ fn say_power_calls(rt: &impl Print, r: PowerRecord) -> io::Result<()> {
         mestep: 3,
     };
     let d = Decoded::Codes { pan: 20, par: 20 };
-    say_handed(rt, r, power::check(r), of_outcome)?;
-    say_handed(rt, r, power::step(p, r, d, 850), of_power)
+    say_handed(r, power::check(r), of_outcome);
+    say_handed(r, power::step(p, r, d, 850), of_power);
 }
 
-fn say_power_case(rt: &impl Print, n: [u16; LISTED]) -> io::Result<()> {
+fn say_power_case(n: [u16; LISTED]) {
     let record = PowerRecord {
         panlast: u32::from(n[0]),
         parsave: u32::from(n[1]),
         panbasic: u32::from(n[2]),
         increase: u32::from(n[3]),
     };
-    say_power_calls(rt, record)
+    say_power_calls(record);
 }
 
 // What the calls of a case answer. Its first byte says which kind it is; n are the words after the first, as numbers.
-fn say_answers(rt: &impl Print, case: &[u8]) -> io::Result<()> {
+fn say_answers(case: &[u8]) {
     let Some(kind) = case.first() else {
-        return Ok(());
+        return;
     };
     let n = channels_at(case, 1);
     match *kind {
-        b'f' => say_float(rt, num_at(case, 1)),
-        b'h' => say_hundredths(rt, int_at(case, 1)),
-        b'm' => say_burst(rt, Burst::Missed),
-        b's' => say_sweep_calls(rt, swept(n, int_at(case, 2))),
-        b'o' => say_outcomes_case(rt, n),
-        b'b' => say_beam_case(rt, channel_at(case, 1), channels_at(case, 2)),
-        b'w' => say_watch_calls(rt, watched(watch_of(word(case, 1)), n, int_at(case, 8))),
-        b'p' => say_power_case(rt, n),
-        _ => Ok(()),
+        b'f' => say_float(num_at(case, 1)),
+        b'h' => say_hundredths(int_at(case, 1)),
+        b'm' => say(of_burst(Burst::Missed)),
+        b's' => say_sweep_calls(swept(n, int_at(case, 2))),
+        b'o' => say_outcomes_case(n),
+        b'b' => say_beam_case(channel_at(case, 1), channels_at(case, 2)),
+        b'w' => say_watch_calls(watched(watch_of(word(case, 1)), n, int_at(case, 8))),
+        b'p' => say_power_case(n),
+        _ => {}
     }
 }
 
 // A line of the table, and on the same line the answers of its case.
-fn say_case(rt: &impl Print, line: &[u8]) -> io::Result<()> {
-    rt.write_all(line)?;
+fn say_case(line: &[u8]) {
+    write(line);
     let case = line.split(|b| *b == COMMENT).next();
-    say_answers(rt, case.unwrap_or(line))?;
-    rt.write_all(&[NEWLINE])
+    say_answers(case.unwrap_or(line));
+    write(&[NEWLINE]);
 }
 
-fn main(rt: HostRuntime) -> io::Result<()> {
-    let mut table = Vec::new(rt.alloc());
-    rt.stdin().take(TABLE_ROOM).read_to_end(&mut table)?;
-    for line in table.split_inclusive(|b| *b == NEWLINE) {
-        say_case(&rt, line.strip_suffix(&[NEWLINE]).unwrap_or(line))?;
+// The table lies in a fixed buffer: a `Vec` would have the proof assume the C functions for memory too.
+fn main() {
+    let mut table = io::large_buffer();
+    let n = io::read_full(STDIN_FILENO, &mut table);
+    for line in table[..n].split_inclusive(|b| *b == NEWLINE) {
+        say_case(line.strip_suffix(&[NEWLINE]).unwrap_or(line));
     }
-    Ok(())
 }

@@ -5,20 +5,34 @@ use choice::Choice;
 use power::{Decoded, PowerParameters, Sent};
 use readings::{Burst, Reading};
 use refusal::Refusal;
-use std::io;
+use std::fmt::{self, Write};
 use sweep::{CHANNELS, FIRST_SWEPT, LAST_SWEPT, Sweep};
 use watch_rules::Answer;
 
-fn say_refused(rt: &impl Print, why: Refusal) -> io::Result<()> {
+// The system's number of the standard output.
+const STDOUT_FILENO: i32 = 1;
+
+// Standard output. Written so that the proof assumes one C function, `write`, and no other; a failed write is passed over.
+#[derive(Drop)]
+struct Output;
+
+impl Write for Output {
+    fn write_str(&mut self, text: &str) -> fmt::Result {
+        io::write_all(STDOUT_FILENO, text.as_bytes());
+        Ok(())
+    }
+}
+
+fn say_refused(out: &mut impl Write, why: Refusal) -> fmt::Result {
     let number = why.number();
-    println!(rt; "refused {number}")
+    writeln!(out, "refused {number}")
 }
 
 // A call that gives no value: what is said where it is accepted.
-fn say_outcome(rt: &impl Print, what: &str, answer: Result<(), Refusal>) -> io::Result<()> {
+fn say_outcome(out: &mut impl Write, what: &str, answer: Result<(), Refusal>) -> fmt::Result {
     match answer {
-        Ok(()) => println!(rt; "{what}"),
-        Err(why) => say_refused(rt, why),
+        Ok(()) => writeln!(out, "{what}"),
+        Err(why) => say_refused(out, why),
     }
 }
 
@@ -28,11 +42,11 @@ fn shown_again(x: f32) -> Result<f32, Refusal> {
     readings::level_to_float(hundredths)
 }
 
-fn say_level(rt: &impl Print, x: f32) -> io::Result<()> {
+fn say_level(out: &mut impl Write, x: f32) -> fmt::Result {
     match shown_again(x) {
-        Ok(back) if back == x => println!(rt; "level shown as it was"),
-        Ok(_) => println!(rt; "level shown rounded"),
-        Err(why) => say_refused(rt, why),
+        Ok(back) if back == x => writeln!(out, "level shown as it was"),
+        Ok(_) => writeln!(out, "level shown rounded"),
+        Err(why) => say_refused(out, why),
     }
 }
 
@@ -59,64 +73,64 @@ fn swept() -> Sweep {
     sweep
 }
 
-fn say_counts(rt: &impl Print, sweep: Sweep) -> io::Result<()> {
+fn say_counts(out: &mut impl Write, sweep: Sweep) -> fmt::Result {
     match sweep::counts(sweep).answer {
         Ok(numbers) => {
-            println!(rt; "visited {}", numbers.visited)?;
-            println!(rt; "heard {}", numbers.heard)
+            writeln!(out, "visited {}", numbers.visited)?;
+            writeln!(out, "heard {}", numbers.heard)
         }
-        Err(why) => say_refused(rt, why),
+        Err(why) => say_refused(out, why),
     }
 }
 
 // The margin is in hundredths; nothing was read on any channel yet.
-fn say_choice(rt: &impl Print, sweep: Sweep) -> io::Result<()> {
+fn say_choice(out: &mut impl Write, sweep: Sweep) -> fmt::Result {
     match choice::choose(sweep, 300, &[0; CHANNELS]).answer {
-        Ok(Choice::Camp { channel, .. }) => println!(rt; "camp on {channel}"),
-        Ok(Choice::Read { channel, .. }) => println!(rt; "read {channel}"),
-        Ok(Choice::NoBeam { tried }) => println!(rt; "no beam, tried {tried}"),
-        Err(why) => say_refused(rt, why),
+        Ok(Choice::Camp { channel, .. }) => writeln!(out, "camp on {channel}"),
+        Ok(Choice::Read { channel, .. }) => writeln!(out, "read {channel}"),
+        Ok(Choice::NoBeam { tried }) => writeln!(out, "no beam, tried {tried}"),
+        Err(why) => say_refused(out, why),
     }
 }
 
 // A record that was kept by the caller can be tested.
-fn say_sweep(rt: &impl Print) -> io::Result<()> {
+fn say_sweep(out: &mut impl Write) -> fmt::Result {
     let sweep = swept();
-    say_outcome(rt, "sweep well formed", sweep::check(sweep).answer)?;
-    say_counts(rt, sweep)?;
-    say_choice(rt, sweep)
+    say_outcome(out, "sweep well formed", sweep::check(sweep).answer)?;
+    say_counts(out, sweep)?;
+    say_choice(out, sweep)
 }
 
 // Every answer of a call on a watch.
-fn say_watch(rt: &impl Print, answer: Result<Answer, Refusal>) -> io::Result<()> {
+fn say_watch(out: &mut impl Write, answer: Result<Answer, Refusal>) -> fmt::Result {
     match answer {
-        Ok(Answer::Accepted) => println!(rt; "accepted"),
-        Ok(Answer::Levels { count, .. }) => println!(rt; "levels {count}"),
-        Ok(Answer::Wait) => println!(rt; "wait"),
-        Ok(Answer::Stay) => println!(rt; "stay"),
-        Ok(Answer::MoveTo(channel)) => println!(rt; "move to {channel}"),
-        Err(why) => say_refused(rt, why),
+        Ok(Answer::Accepted) => writeln!(out, "accepted"),
+        Ok(Answer::Levels { count, .. }) => writeln!(out, "levels {count}"),
+        Ok(Answer::Wait) => writeln!(out, "wait"),
+        Ok(Answer::Stay) => writeln!(out, "stay"),
+        Ok(Answer::MoveTo(channel)) => writeln!(out, "move to {channel}"),
+        Err(why) => say_refused(out, why),
     }
 }
 
 // Each call hands its watch on to the next. The start gives its depth, 5 to 31: how many levels of a channel make a mean. The hysteresis is in
 // hundredths. While the serving channel has fewer levels than the depth, the verdict is to wait.
-fn say_watched(rt: &impl Print) -> io::Result<()> {
+fn say_watched(out: &mut impl Write) -> fmt::Result {
     let started = watch::start(watch::fresh(), 310, 15);
     let listed = watch::new_beam(started.state, 310, &[118, 42, 205]);
     let filed = watch::file(listed.state, 42, burst_on(42));
     let asked = watch::ask(filed.state, 42);
-    say_watch(rt, asked.answer)?;
+    say_watch(out, asked.answer)?;
     let judged = watch::verdict(asked.state, 300);
-    say_watch(rt, judged.answer)?;
+    say_watch(out, judged.answer)?;
     // Channel 42 serves now, and 310 is in its list: both keep their levels.
     let moved = watch::new_beam(judged.state, 42, &[118, 310, 205]);
-    say_watch(rt, moved.answer)?;
-    say_watch(rt, watch::check(moved.state).answer)
+    say_watch(out, moved.answer)?;
+    say_watch(out, watch::check(moved.state).answer)
 }
 
 // The parameters are codes, and the quality SQI is in hundredths. A step hands on the record that it was given, advanced.
-fn say_power(rt: &impl Print) -> io::Result<()> {
+fn say_power(out: &mut impl Write) -> fmt::Result {
     let parameters = PowerParameters {
         sqt: 80,
         paninit: 24,
@@ -135,21 +149,25 @@ fn say_power(rt: &impl Print) -> io::Result<()> {
     );
     match stepped.answer {
         Ok(Sent { par, pan }) => {
-            println!(rt; "send PAR {par}")?;
-            println!(rt; "send PAN {pan}")?;
+            writeln!(out, "send PAR {par}")?;
+            writeln!(out, "send PAN {pan}")?;
         }
-        Err(why) => say_refused(rt, why)?,
+        Err(why) => say_refused(out, why)?,
     }
     say_outcome(
-        rt,
+        out,
         "power record well formed",
         power::check(stepped.state).answer,
     )
 }
 
-fn main(rt: HostRuntime) -> io::Result<()> {
-    say_level(&rt, -97.25)?;
-    say_sweep(&rt)?;
-    say_watched(&rt)?;
-    say_power(&rt)
+fn say_all(out: &mut impl Write) -> fmt::Result {
+    say_level(out, -97.25)?;
+    say_sweep(out)?;
+    say_watched(out)?;
+    say_power(out)
+}
+
+fn main() {
+    let _ = say_all(&mut Output);
 }
