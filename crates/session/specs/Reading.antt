@@ -1,6 +1,7 @@
 -- A session file that is read in blocks: what a block writes, and what is still to be written.
 use Rattle.std.specs.Prelude.{ℕ, ◌≤◌, ◌<◌, ◌≡◌, cond, List, [], ◌++◌, length, ltb}
 use Rattle.session_words.specs.Words.{words_of}
+use Rattle.session_words.specs.Held.{held}
 use Rattle.session_lines.specs.Lines.{longest, passed_over, lines_after}
 use Rattle.session_texts.specs.Text.{room}
 use Rattle.session_lines.specs.declared.Line.{Line}
@@ -14,7 +15,7 @@ use Rattle.session.specs.File.{answers_from, answers_of}
 
 -- the bytes of the line that has begun, as far as they are kept: of one that is too long to be a call its first bytes, one more than the longest
 unfoldable pub so_far : Line → List ℕ
-so_far l = l.bytes.items
+so_far l = held l.bytes
 
 -- what a line does and writes, by its length and its first bytes
 unfoldable pub kept_written : ℕ → List ℕ → ℕ → State → Written

@@ -11,7 +11,7 @@ use session_texts::{ROOM, Text};
 use session_words::NEWLINE;
 
 // A session file as far as it was read: the state, the line that has begun, and that line's number, from 1.
-#[derive(Drop)]
+#[derive(Clone, Copy)]
 pub struct Session {
     pub state: State,
     pub line: Line,
@@ -19,7 +19,7 @@ pub struct Session {
 }
 
 // A session after some bytes of a block: how many of these were taken, and how many bytes of the buffer are answers.
-#[derive(Drop)]
+#[derive(Clone, Copy)]
 pub struct Progress {
     pub session: Session,
     pub taken: usize,

@@ -22,7 +22,7 @@ use sweep_rules::Numbers;
 use watch_rules::Answer;
 
 // What a line of the file does: the record that it leaves, and the text that it writes.
-#[derive(Drop)]
+#[derive(Clone, Copy)]
 pub struct Answered<R> {
     pub state: R,
     pub text: Text,

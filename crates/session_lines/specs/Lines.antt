@@ -1,6 +1,7 @@
 -- Session files, section Lines: how the bytes of a file are cut into lines, and what is kept of a line that is being read.
 use Rattle.std.specs.Prelude.{ℕ, suc, ◌+◌, min, Bool, true, cond, List, [], ◌∷◌, ◌++◌, length, take, eqb, ltb}
 use Rattle.session_words.specs.Bytes.{newline}
+use Rattle.session_words.specs.Held.{held}
 use Rattle.session_lines.specs.declared.Line.{Line}
 
 -- the byte that begins a comment
@@ -39,7 +40,7 @@ kept_of s = record { size = min (length s) (suc longest); first = take longest s
 
 -- what a line of the code keeps
 abbrev pub kept : Line → Kept
-kept l = kept_of l.bytes.items
+kept l = kept_of (held l.bytes)
 
 -- what is kept once more bytes have come
 unfoldable pub with_more : Kept → List ℕ → Kept

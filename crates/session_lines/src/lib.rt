@@ -4,8 +4,7 @@
 ghost use Rattle.std.specs.Prelude.{◌≡◌, []};
 ghost use Rattle.session_lines.specs.Lines.{kept, kept_of, with_more};
 
-use arrayvec::ArrayVec;
-use session_words::push_fitting;
+use session_words::Held;
 
 // The longest line that may be a call, without its newline.
 pub const LONGEST: usize = 200;
@@ -14,9 +13,9 @@ pub const LONGEST: usize = 200;
 const KEPT: usize = LONGEST + 1;
 
 // The first bytes of a line, as far as it was read.
-#[derive(Drop)]
+#[derive(Clone, Copy)]
 pub struct Line {
-    bytes: ArrayVec<u8, KEPT>,
+    pub bytes: Held<KEPT>,
 }
 
 impl Line {
@@ -25,7 +24,7 @@ impl Line {
         ensures { kept result ≡ kept_of [] }
     {
         Line {
-            bytes: ArrayVec::new(),
+            bytes: Held::new(),
         }
     }
 
@@ -33,14 +32,14 @@ impl Line {
     pub fn push(&mut self, more: &[u8])
         ensures { kept self.new ≡ with_more (kept self.old) more.now }
     {
-        push_fitting(&mut self.bytes, more);
+        self.bytes.push(more);
     }
 
     // Its length; one above the longest stands for all greater ones.
     pub fn size(&self) -> usize
         ensures { result ≡ (kept self.now).size }
     {
-        self.bytes.len()
+        self.bytes.as_slice().len()
     }
 
     // Its first bytes, at most the longest.

@@ -5,6 +5,7 @@ use Rattle.std.specs.Float.Ieee.{to_bits}
 use Rattle.io.specs.Digits.{last_digits}
 use Rattle.session_texts.specs.declared.Text.{Text}
 use Rattle.session_words.specs.Bytes.{minus}
+use Rattle.session_words.specs.Held.{held}
 
 -- at most so many decimal digits of a number: those of its tenth, if that is not 0, and the last one
 unfoldable pub final_digits : ℕ → ℕ → List ℕ
@@ -30,4 +31,4 @@ room = 64
 
 -- what a text of the code says
 abbrev pub said : Text → List ℕ
-said t = t.bytes.items
+said t = held t.bytes

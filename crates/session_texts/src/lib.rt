@@ -8,8 +8,7 @@ ghost use Rattle.std.specs.Float.Ieee.{to_bits};
 ghost use Rattle.session_words.specs.Bytes.{fitting};
 ghost use Rattle.session_texts.specs.Text.{room, said, decimal_text, signed_text, bits_text};
 
-use arrayvec::ArrayVec;
-use session_words::{copy_to, push_fitting};
+use session_words::{Held, copy_to};
 
 // No answer is longer, with its newline.
 pub const ROOM: usize = 64;
@@ -17,9 +16,9 @@ pub const ROOM: usize = 64;
 const NAN_BITS: u32 = 0x7fc0_0000;
 
 // The bytes of an answer.
-#[derive(Drop)]
+#[derive(Clone, Copy)]
 pub struct Text {
-    bytes: ArrayVec<u8, ROOM>,
+    pub bytes: Held<ROOM>,
 }
 
 impl Text {
@@ -28,7 +27,7 @@ impl Text {
         ensures { said result ≡ [] }
     {
         Text {
-            bytes: ArrayVec::new(),
+            bytes: Held::new(),
         }
     }
 
@@ -44,16 +43,14 @@ impl Text {
     pub fn push_byte(&mut self, byte: u8)
         ensures { said self.new ≡ take room (said self.old ++ byte ∷ []) }
     {
-        if !self.bytes.is_full() {
-            self.bytes.push(byte);
-        }
+        self.push(&[byte]);
     }
 
     // Adds bytes, as far as there is room.
     pub fn push(&mut self, more: &[u8])
         ensures { said self.new ≡ take room (said self.old ++ more.now) }
     {
-        push_fitting(&mut self.bytes, more);
+        self.bytes.push(more);
     }
 
     // Adds a number in decimal.

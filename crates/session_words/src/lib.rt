@@ -1,12 +1,11 @@
 // The words of a line of a session file: what stands between its spaces. Bytes copied into a buffer, as far as there is room.
 #![tactic(auto)]
 
-ghost use Rattle.std.specs.Prelude.{◌≡◌, ◌+◌, ◌++◌, length, take};
+ghost use Rattle.std.specs.Prelude.{◌≡◌, ◌+◌, ◌≤◌, [], ◌++◌, length, take};
 ghost use Rattle.std.proofs.Math.Seq.{paste};
 ghost use Rattle.session_words.specs.Bytes.{alike, fitting};
 ghost use Rattle.session_words.specs.Words.{words_of, word_at};
-
-use arrayvec::ArrayVec;
+ghost use Rattle.session_words.specs.Held.{held};
 
 // The bytes between two words, and after a line.
 pub const SPACE: u8 = b' ';
@@ -26,12 +25,38 @@ pub fn copy_to(dst: &mut [u8], at: usize, src: &[u8]) -> usize
     at + n
 }
 
-// Adds bytes to those that a buffer holds, as far as there is room.
-pub fn push_fitting<const N: usize>(held: &mut ArrayVec<u8, N>, more: &[u8])
-    ensures { held.new.items ≡ take N (held.old.items ++ more.now) }
-{
-    let n = more.len().min(held.remaining_capacity());
-    let _ = held.try_extend_from_slice(&more[..n]);
+// Bytes in a buffer of a fixed size, the first `length` of it. No `ArrayVec`: that is not `Copy`, and a session that holds such bytes is.
+#[derive(Clone, Copy)]
+pub struct Held<const N: usize> {
+    pub bytes: [u8; N],
+    pub length: usize,
+}
+
+impl<const N: usize> Held<N> {
+    // No bytes.
+    pub fn new() -> Self
+        ensures { held result ≡ [] }
+    {
+        Held {
+            bytes: [0; N],
+            length: 0,
+        }
+    }
+
+    // The bytes.
+    pub fn as_slice(&self) -> &[u8]
+        ensures bytes { result.now ≡ held self.now }
+        ensures fits { length result.now ≤ N }
+    {
+        &self.bytes[..self.length.min(N)]
+    }
+
+    // Adds bytes, as far as there is room.
+    pub fn push(&mut self, more: &[u8])
+        ensures { held self.new ≡ take N (held self.old ++ more.now) }
+    {
+        self.length = copy_to(&mut self.bytes, self.length.min(N), more);
+    }
 }
 
 // Whether two words are the same bytes.
