@@ -36,7 +36,8 @@ module _ (p : PowerParameters) (r : PowerRecord) (d : Decoded) (sqi : ℤ) where
       → (s.state ≡ r) × (s.answer ≡ Err why) → Tells s (stepped p r d sqi)
   refuse s why e h = rw e (h.0, ap told_answer h.1)
 
-  pub refuse_9 : (s : Handed PowerRecord Sent) → (s.state ≡ r) × (s.answer ≡ Err RecordNotWellFormed) → well_formed r ≡ false → Tells s (stepped p r d sqi)
+  pub refuse_9 : (s : Handed PowerRecord Sent) → (s.state ≡ r) × (s.answer ≡ Err RecordNotWellFormed) → well_formed r ≡ false
+      → Tells s (stepped p r d sqi)
   unfolding stepped
   refuse_9 s h f = refuse s RecordNotWellFormed (rw f) h
 
@@ -45,8 +46,8 @@ module _ (p : PowerParameters) (r : PowerRecord) (d : Decoded) (sqi : ℤ) where
   unfolding stepped
   refuse_7 s h f g = refuse s ParameterOutOfRange (rw (f, g)) h
 
-  pub refuse_1 : (s : Handed PowerRecord Sent) → (s.state ≡ r) × (s.answer ≡ Err ReadingOutOfRange) → well_formed r ≡ true → (parameters_in_range p && codes_in_range d) ≡ true
-      → quality_in_range sqi ≡ false → Tells s (stepped p r d sqi)
+  pub refuse_1 : (s : Handed PowerRecord Sent) → (s.state ≡ r) × (s.answer ≡ Err ReadingOutOfRange) → well_formed r ≡ true
+      → (parameters_in_range p && codes_in_range d) ≡ true → quality_in_range sqi ≡ false → Tells s (stepped p r d sqi)
   unfolding stepped
   refuse_1 s h f g q = refuse s ReadingOutOfRange (rw (f, g, q)) h
 
@@ -56,8 +57,9 @@ module _ (p : PowerParameters) (r : PowerRecord) (d : Decoded) (sqi : ℤ) where
   stepped_is f g q = rw (f, g, q)
 
   pub accept : (s : Handed PowerRecord Sent) (n : ℕ)
-      → (s.state ≡ record_after p r d) × (s.answer ≡ Ok (record { par = par_at p (pan_use r d) n; pan = pan_at p (record_after p r d) })) → n ≡ above_lowest sqi
-      → well_formed r ≡ true → (parameters_in_range p && codes_in_range d) ≡ true → quality_in_range sqi ≡ true → Tells s (stepped p r d sqi)
+      → (s.state ≡ record_after p r d) × (s.answer ≡ Ok (record { par = par_at p (pan_use r d) n; pan = pan_at p (record_after p r d) }))
+      → n ≡ above_lowest sqi → well_formed r ≡ true → (parameters_in_range p && codes_in_range d) ≡ true → quality_in_range sqi ≡ true
+      → Tells s (stepped p r d sqi)
   unfolding sending
   accept s n h e f g q =
       let par = ap (λ (m : ℕ). pos (par_at p (pan_use r d) m)) e ∙ sym (par_law p (pan_use r d) (use_below r d (formed r f)) sqi q) in
