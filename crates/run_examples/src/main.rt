@@ -234,7 +234,7 @@ fn say_power_case(n: [u16; LISTED]) {
     say_power_calls(record);
 }
 
-// What the calls of a case answer. Its first byte says which kind it is; n are the words after the first, as numbers.
+// What the calls of a case answer. Its first byte says which kind it is, a letter of the table's own; n are the words after the first, as numbers.
 fn say_answers(case: &[u8]) {
     let Some(kind) = case.first() else {
         return;

@@ -84,7 +84,7 @@ fn float(x: f32) -> Text
     text
 }
 
-// The answer of a call that gives no value.
+// The answer of a call that gives no value. One function for each kind of answer: a trait with its text as a ghost member would be longer.
 #[tactic(auto, unfolding(crate::specs::Lines::outcome_line))]
 pub fn of_outcome(answer: Result<(), Refusal>) -> Text
     ensures { said result ≡ outcome_line (told answer) }

@@ -1,10 +1,10 @@
 // Which row of a table of calls a line has: the table is a text, a row to a line.
 #![tactic(auto)]
 
-ghost use Rattle.std.specs.Prelude.{◌≡◌, position, List, ℕ};
+ghost use Rattle.std.specs.Prelude.{◌≡◌, position, unwrap_or, length, List, ℕ};
 ghost use Rattle.std.specs.Iterator.{IsFinite};
 ghost use Rattle.session_words.specs.Words.{words_of};
-ghost use Rattle.session_calls.specs.Grammar.{most_channels, channels_up_to, fits_word, fits, rows_of};
+ghost use Rattle.session_calls.specs.Grammar.{most_channels, channels_up_to, fits_word, fits, rows_of, first_fit};
 ghost use Rattle.session_calls.specs.Code.{WordsOf};
 
 use session_numbers::{num, whole_number};
@@ -73,7 +73,8 @@ fn fits(row: &[u8], line: &[u8]) -> bool
 
 // The number of the first row of a table that a line has, if it has one.
 pub fn row_of(table: &[u8], line: &[u8]) -> Option<usize>
-    ensures { result ≡ position (λ row. fits (words_of row) (words_of line.now)) (rows_of table.now) }
+    ensures place { result ≡ position (λ row. fits (words_of row) (words_of line.now)) (rows_of table.now) }
+    ensures row { unwrap_or result (length (rows_of table.now)) ≡ first_fit (rows_of table.now) (words_of line.now) }
 {
     table
         .split(|b| *b == NEWLINE)

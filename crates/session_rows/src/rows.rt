@@ -61,6 +61,7 @@ pub fn row_of(line: &[u8]) -> Option<usize>
     session_calls::row_of(&TABLE, line)
 }
 
+// By the number of the row, here and below: the definitions have the rows as a list in this order, and the gate compares the three.
 fn choice_row(state: State, number: u64, row: usize, line: &[u8]) -> Answered<State>
     ensures { told_answered result ≡ row_at choice_rows malformed row (words_of line.now) number state }
 {

@@ -53,7 +53,7 @@ impl Text {
         self.bytes.push(more);
     }
 
-    // Adds a number in decimal.
+    // Adds a number in decimal. The library that writes digits fills a buffer and answers their number.
     pub fn push_decimal(&mut self, n: u64)
         ensures { said self.new ≡ take room (said self.old ++ decimal_text n) }
     {
@@ -93,7 +93,7 @@ impl Text {
     }
 }
 
-// A float's bits. A NaN has many patterns: it counts as this one.
+// A float's bits. A NaN has many patterns, and the library leaves open which it gives: it counts as this one.
 fn bits_of(x: f32) -> u32
     ensures { result ≡ to_bits binary32 x }
 {

@@ -59,7 +59,7 @@ impl<const N: usize> Held<N> {
     }
 }
 
-// Whether two words are the same bytes.
+// Whether two words are the same bytes: a name for `==`, whose promise is the word of which the definitions speak.
 pub fn same(a: &[u8], b: &[u8]) -> bool
     ensures { result ≡ alike a.now b.now }
 {

@@ -14,7 +14,7 @@ use Rattle.session_rows.proofs.rows.row_of.Goals as goal
 pub returns-clause-row : goal.returns-clause-row
 unfolding rows_of row_of rows table watch_rows sweep_rows choice_rows power_rows reading_rows
 returns-clause-row c =
-    ap (λ r. unwrap_or r rows) c.row_of.ensures ∙ first_is (words_of c.args.line.now) (map text_of table)
+    ap (λ r. unwrap_or r rows) c.row_of.ensures.place ∙ first_is (words_of c.args.line.now) (map text_of table)
 
 -- what is found stands in the list
 within : (p : List ℕ → Bool) (xs : List (List ℕ)) (r : Option ℕ) → r ≡ position p xs → IfSome r (λ k. k < length xs)
@@ -29,4 +29,4 @@ within p xs r e = subst (λ (o : Option ℕ). IfSome o (λ k. k < length xs)) (s
 
 pub returns-clause-few : goal.returns-clause-few
 unfolding rows_of rows table watch_rows sweep_rows choice_rows power_rows reading_rows
-returns-clause-few c = within (λ row. fits (words_of row) (words_of c.args.line.now)) (map text_of table) c.row_of.result c.row_of.ensures
+returns-clause-few c = within (λ row. fits (words_of row) (words_of c.args.line.now)) (map text_of table) c.row_of.result c.row_of.ensures.place
