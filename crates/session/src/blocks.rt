@@ -51,6 +51,7 @@ pub fn answer_block(session: Session, block: &[u8], out: &mut [u8]) -> Progress
     let mut number = session.number;
     let mut at = 0;
     let mut used = 0;
+    // No iterator ends by the room that is left in the buffer, which each answer takes from.
     while (at < block.len()) & (ROOM <= out.len() - used) {
         let end = find(block, at, block.len(), NEWLINE);
         line.push(&block[at..end]);

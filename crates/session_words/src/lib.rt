@@ -34,7 +34,7 @@ pub fn push_fitting<const N: usize>(held: &mut ArrayVec<u8, N>, more: &[u8])
     let _ = held.try_extend_from_slice(&more[..n]);
 }
 
-// Whether two words are the same bytes.
+// Whether two words are the same bytes: `==`, with the promise in the words of the grammar of calls.
 pub fn same(a: &[u8], b: &[u8]) -> bool
     ensures { result ≡ alike a.now b.now }
 {
