@@ -3,7 +3,7 @@ ghost use Rattle.std.specs.Prelude.{◌≡◌, [], ◌≤◌, length, take, drop
 ghost use Rattle.session_texts.specs.Text.{said};
 ghost use Rattle.session.specs.Reading.{to_write, Unread, GoesOn, Moves};
 
-use crate::lines::{answer, next_number};
+use crate::lines::{answer, answer_line, kind_of, next_number};
 use byte_scan::find;
 use session_lines::Line;
 use session_state::State;
@@ -52,6 +52,7 @@ pub fn answer_block(session: Session, block: &[u8], out: &mut [u8]) -> Progress
     let mut number = session.number;
     let mut at = 0;
     let mut used = 0;
+    // No iterator ends by the room that is left in the buffer, which each answer takes from.
     while (at < block.len()) & (ROOM <= out.len() - used) {
         let end = find(block, at, block.len(), NEWLINE);
         line.push(&block[at..end]);
@@ -62,7 +63,7 @@ pub fn answer_block(session: Session, block: &[u8], out: &mut [u8]) -> Progress
         at = end + 1;
         let this = number;
         number = next_number(this);
-        used = answer(&mut state, this, &line).put(out, used);
+        used = answer_line(&mut state, this, &line).put(out, used);
         line = Line::blank();
     }
     Progress {
@@ -80,6 +81,8 @@ pub fn answer_block(session: Session, block: &[u8], out: &mut [u8]) -> Progress
 pub fn finish(session: Session) -> Text
     ensures { said result ≡ to_write session [] }
 {
+    let held = session.line.first();
+    let kind = kind_of(session.line.size(), held);
     let mut state = session.state;
-    answer(&mut state, session.number, &session.line)
+    answer(&mut state, session.number, kind, held)
 }

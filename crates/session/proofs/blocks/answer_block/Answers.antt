@@ -69,9 +69,9 @@ loop-at-preserved c =
     let inside = in_block l.at (length block) room (length l.out - l.used) c.loop-at-test.true in
     let some = has_room l.at (length block) room (length l.out - l.used) c.loop-at-test.true in
     let put = c.put-used.ensures in
-    answered l.invariant _ m c.answer.result inside some c.find-end.ensures.place (omega (arith, c.find-end.ensures.most, c.if-end-block.false)) put.fits
+    answered l.invariant _ m c.answer_line.result inside some c.find-end.ensures.place (omega (arith, c.find-end.ensures.most, c.if-end-block.false)) put.fits
     c.push.ensures c.blank-line.ensures
-    (ap (λ w. w.text) c.answer.ensures) (ap (λ w. w.state) c.answer.ensures) c.next_number-number.ensures put.place put.bytes
+    (ap (λ w. w.text) c.answer_line.ensures) (ap (λ w. w.state) c.answer_line.ensures) c.next_number-number.ensures put.place put.bytes
 
 -- ---- all of it
 
