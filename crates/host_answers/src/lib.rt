@@ -22,7 +22,7 @@ use refusal::{Handed, Reason, Refusal};
 use sweep_rules::{Numbers, Sweep};
 use watch_rules::{Answer, Watch};
 
-// The number of an accepted call.
+// The number of an accepted call. These are numbers and no enums, since no enum crosses the C interface, and so is each struct by its own function.
 const ACCEPTED: u32 = 0;
 
 // Where no place is told: no place is so high.

@@ -22,7 +22,7 @@ const SIGN: u32 = 0x8000_0000;
 const LEAD: u32 = 0x80_0000;
 
 // 100 times (LEAD + digits) / 2 ^ (150 - exponent), to the nearest whole number, an exact half up or down.
-// No product is wider than 32 bits: 24 binary digits times 100 fit 31.
+// No product is wider than 32 bits: 24 binary digits times 100 fit 31. By hand, as no library function rounds a half to the lower number.
 fn rounded(up: bool, exponent: u32, digits: u32) -> u32
     requires { (exponent < 150) × (digits < 8388608) }
     ensures near { Near up (100 * in_units exponent digits) (2 ^ 149) result }
@@ -110,7 +110,7 @@ impl Range {
     }
 }
 
-// A level in hundredths.
+// A level in hundredths. Each range has its calls, as users and the C interface name them.
 pub fn level_to_hundredths(x: f32) -> Result<i32, Refusal>
     ensures { told result ≡ level_of x }
 {

@@ -77,8 +77,8 @@ by_kept n st s =
         cond-true _ _ (lt-ltb longest (kept_of s).size (omega arith)) ∙ sym (cond-true _ _ (lt-ltb longest (length s) k))
 
 -- the line that the code holds, by its kind as the code finds it
-pub line_done : (n : ℕ) (st : State) (l : Line) (k : Kind) {size : ℕ} {held : List ℕ} → size ≡ (kept l).size → held ≡ (kept l).first
-    → ((m : ℕ) (s : State) → kind_written k m s held ≡ kept_written size held m s) → kind_written k n st held ≡ line_written n st (so_far l)
+pub line_done : (n : ℕ) (st : State) (l : Line) (k : Kind) {size : ℕ} {first : List ℕ} → size ≡ (kept l).size → first ≡ (kept l).first
+    → ((m : ℕ) (s : State) → kind_written k m s first ≡ kept_written size first m s) → kind_written k n st first ≡ line_written n st (so_far l)
 unfolding so_far
-line_done n st l k {size} {held} e f by_kind =
+line_done n st l k {size} {first} e f by_kind =
     by_kind n st ∙ ap₂ (λ i h. kept_written i h n st) e f ∙ by_kept n st (held l.bytes)

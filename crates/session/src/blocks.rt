@@ -37,8 +37,7 @@ pub fn begin() -> Session
     }
 }
 
-// Answers lines of a block until it ends or the buffer has no room for one more answer. No iterator: how far a turn goes, and whether one more
-// follows, the line and the buffer decide.
+// Answers lines of a block until it ends or the buffer has no room for one more answer.
 pub fn answer_block(session: Session, block: &[u8], out: &mut [u8]) -> Progress
     ensures rest { GoesOn session block.now (take result.written out.new) result.session (drop result.taken block.now) }
     ensures beyond { drop result.written out.new ≡ drop result.written out.old }

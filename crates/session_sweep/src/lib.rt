@@ -66,7 +66,8 @@ fn rest_missed(mut sweep: Sweep) -> Sweep
     sweep
 }
 
-// A call on the sweep, by the number of its row, as the definitions have it. No row is beyond the last: there the next channel is asked for, which leaves the sweep as it is.
+// A call on the sweep, by the number of its row, as the definitions have it.
+// No row is beyond the last: there the next channel is asked for, which leaves the sweep as it is.
 pub fn sweep_row(sweep: Sweep, row: usize, line: &[u8]) -> Answered<Sweep>
     ensures { told_sweep_answered result ≡ row_at sweep_rows next_asked row (words_of line.now) sweep }
 {

@@ -51,7 +51,8 @@ pub fn heard_at(line: &[u8], place: u32) -> Burst
     })
 }
 
-// The 8 words from a place on, as the channels of a list; one that is missing is 0, for tables whose words are taken by number. A place of 32 bits always has others after it. An array, for who takes them by number.
+// The 8 words from a place on, as the channels of a list; one that is missing is 0, for tables whose words are taken by number.
+// A place of 32 bits always has others after it. An array, for who takes them by number.
 pub fn channels_at(line: &[u8], place: u32) -> [u16; LISTED]
     ensures { result ≡ listed (words_of line.now) place }
 {

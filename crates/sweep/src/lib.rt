@@ -50,7 +50,7 @@ pub fn is_set(map: &[u64], c: usize) -> bool
     (word >> (c % WORD_BITS)) % 2 == 1
 }
 
-// Sets the bit of a channel.
+// Sets the bit of a channel. That it is one is asked of one argument here and below: a type for it would be built and taken apart at each call.
 fn set_bit(map: &mut [u64; WORDS], c: usize)
     requires { c < channels }
     ensures { map.new ≡ with_bit map.old c }

@@ -118,7 +118,7 @@ struct Pick {
 }
 
 impl Pick {
-    // The better of two: the greater sum, and the lower channel among equals.
+    // The better of two: the greater sum, and the lower channel among equals. No derived order: the one counts upwards, the other downwards.
     fn better(self, other: Pick) -> Pick
         ensures { result ≡ better_of self other }
     {
