@@ -23,9 +23,7 @@ impl Line {
     pub fn blank() -> Line
         ensures { kept result ≡ kept_of [] }
     {
-        Line {
-            bytes: Held::new(),
-        }
+        Line { bytes: Held::new() }
     }
 
     // Adds the bytes that come next.

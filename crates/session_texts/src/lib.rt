@@ -26,9 +26,7 @@ impl Text {
     pub fn new() -> Text
         ensures { said result ≡ [] }
     {
-        Text {
-            bytes: Held::new(),
-        }
+        Text { bytes: Held::new() }
     }
 
     // What it says.
