@@ -45,6 +45,7 @@ fn replay_block<'a>(
     session: Session,
     block: &[u8],
 ) -> Result<Session, Failure<'a>> {
+    // Fixed memory, here and below: a session of any length is answered in these buffers.
     let mut out = io::large_buffer();
     let mut s = session;
     let mut rest = block;
