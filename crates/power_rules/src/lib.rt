@@ -31,8 +31,8 @@ pub struct PowerRecord {
     pub increase: u32,
 }
 
-// What decoding the other end's message gave. An enum of its own and no `Option`: a message that failed is no missing one, and the rules of a
-// step name both cases.
+// What decoding the other end's message gave. An enum of its own and no `Option`: `Rule3` and the calls for C speak
+// of both cases.
 #[derive(Clone, Copy, PartialEq, Eq)]
 pub enum Decoded {
     Failed,

@@ -12,7 +12,8 @@ pub struct Reading<T = f32> {
     pub quality: T,
 }
 
-// The modem's result for one burst, in floats or in hundredths. An enum of its own and no `Option`: the paper names both of its cases.
+// The modem's result for one burst, in floats or in hundredths. An enum of its own and no `Option`: the
+// paper asks for this form, and `BurstRule` and the calls for C speak of both cases.
 #[derive(Clone, Copy)]
 pub enum Burst<T = f32> {
     Heard(Reading<T>),

@@ -25,6 +25,7 @@ pub fn set_outcome(mut state: State, number: u64, channel: u16, outcome: u8) -> 
     }
 }
 
+// These three differ in their call, in what they change and in the writer of the answer: one function with all as parameters would be no shorter.
 pub fn choose(state: State, margin: i32) -> Answered<State>
     ensures { told_answered result ≡ chosen margin state }
 {

@@ -16,6 +16,7 @@ use sweep::{FIRST_SWEPT, LAST_SWEPT, Sweep};
 // The number of rows on the sweep.
 pub const SWEEP_ROWS: usize = 6;
 
+// These three differ in their call and in the writer of its answer: one function with both as parameters would be no shorter.
 fn file(sweep: Sweep, channel: u16, burst: Burst) -> Answered<Sweep>
     ensures { told_sweep_answered result ≡ filed channel burst sweep }
 {

@@ -25,8 +25,8 @@ pub fn end_line(text: &mut Text)
     text.push_byte(b'\n');
 }
 
-// Written out and not by `write!`: that promises what is written where it succeeds, and not that it does.
-// Adds what a byte of a template stands for: a letter for its number, any other byte for itself.
+// Adds what a byte of a template stands for: a letter for its number, any other byte for itself. Written out and not by `write!`: that promises
+// what is written where it succeeds, and not that it does.
 fn push_piece(text: &mut Text, byte: u8, letters: Letters)
     ensures { said text.new ≡ take room (said text.old ++ piece letters.a letters.b letters.z byte) }
 {

@@ -19,8 +19,8 @@ pub const WATCH_ROWS: usize = 7;
 // The depth of a start that names none: recorded sessions have such lines.
 const RECORDED_DEPTH: usize = 15;
 
-// A row has no name but its place in the table, which is a text: the numbers here follow it.
 // A call on the watch, by its row. No row is beyond the last: there a verdict leaves the watch as it is.
+// A row has no name but its place in the table, which is a text: the numbers here follow it, as the definitions do.
 pub fn watch_row(watch: Watch, row: usize, line: &[u8]) -> Handed<Watch, Answer>
     ensures { told_handed result ≡ called watch (row_at watch_rows (verdict (pos 0)) row (words_of line.now)) }
 {

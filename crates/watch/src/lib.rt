@@ -55,7 +55,7 @@ fn filed(w: &mut Watch, channel: u16, burst: Burst) -> Result<Answer, Refusal>
     Ok(Answer::Accepted)
 }
 
-// A track's levels, oldest first.
+// A track's levels, oldest first. That they are few is said here and asked twice below: a slice has no type that says it.
 fn levels_of(track: &Track) -> &[i16]
     ensures kept { result.now ≡ (row_of track.now).levels }
     ensures few { length result.now ≤ capacity }
