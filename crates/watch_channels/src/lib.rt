@@ -35,12 +35,10 @@ fn started(w: &mut Watch, serving: u16, depth: usize) -> Result<Answer, Refusal>
     if serving > CHANNEL_HIGHEST {
         return Err(Refusal::ChannelOutOfRange);
     }
-    *w = Watch {
-        watched: 1,
-        depth,
-        ..fresh()
-    };
+    *w = fresh();
     w.tracks[0] = empty(serving);
+    w.watched = 1;
+    w.depth = depth;
     Ok(Answer::Accepted)
 }
 

@@ -162,10 +162,8 @@ impl<'a> Sound<'a> {
 pub fn check(w: Watch) -> Handed<Watch, Answer>
     ensures { told_handed result ≡ tested w }
 {
-    Handed {
-        state: w,
-        answer: checked(&w),
-    }
+    let answer = checked(&w);
+    Handed { state: w, answer }
 }
 
 fn checked(w: &Watch) -> Result<Answer, Refusal>
