@@ -1,5 +1,6 @@
 -- The laws behind the proofs of numbers.
 pub mod Powers
+mod Choices
 mod Runs
 mod Radices
 mod Signs
