@@ -3,6 +3,7 @@ pub mod Powers
 mod Choices
 mod Runs
 mod Radices
+mod Hex
 mod Signs
 mod Decimals
 mod Nums
