@@ -24,10 +24,6 @@ module _ {A : Type 0} where
   pub drop_end : (s : List A) (i : ℕ) → length s ≤ i → drop i s ≡ []
   drop_end s i h = drop_of_length-le s h
 
-  -- a part with one more element
-  pub take_more : (s : List A) (i : ℕ) (d : A) → i < length s → take (i + 1) s ≡ take i s ++ (get_or s i d ∷ [])
-  take_more s i d h = rw (add-one, take-suc s i d)
-
   -- what finds room is not changed by what was cut off before
   pub take_again : (n : ℕ) (a b : List A) → take n (take n a ++ b) ≡ take n (a ++ b)
   take_again zero a b = refl
