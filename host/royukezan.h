@@ -541,24 +541,24 @@ royukezan_sent_answer royukezan_power_step_failed(royukezan_power_record *r, roy
  *     royukezan_level_read_back          100
  *     royukezan_quality_read_back        100
  *     royukezan_sweep_fresh             4700
- *     royukezan_sweep_file_heard       18700  18700
- *     royukezan_sweep_file_missed      18700  18700
+ *     royukezan_sweep_file_heard       18700  18600
+ *     royukezan_sweep_file_missed      18700  18600
  *     royukezan_sweep_next              4700   4700
- *     royukezan_sweep_counts            9400   9400
- *     royukezan_sweep_check             9300   9300
+ *     royukezan_sweep_counts            4700   4700
+ *     royukezan_sweep_check             4700   4700
  *     royukezan_choose                 13800  13800
  *     royukezan_watch_fresh              600
- *     royukezan_watch_start             2500   2400
- *     royukezan_watch_new_beam          2800   2800
- *     royukezan_watch_file_heard        2500   2500
- *     royukezan_watch_file_missed       2500   2500
+ *     royukezan_watch_start             1900   1900
+ *     royukezan_watch_new_beam          2700   2700
+ *     royukezan_watch_file_heard        2600   2500
+ *     royukezan_watch_file_missed       2600   2500
  *     royukezan_watch_ask               1300   1300
- *     royukezan_watch_verdict           1300   1300
- *     royukezan_watch_check             1300   1300
+ *     royukezan_watch_verdict           1200   1200
+ *     royukezan_watch_check              700    700
  *     royukezan_power_start              200    100
  *     royukezan_power_check              100    100
- *     royukezan_power_step_decoded       300    300
- *     royukezan_power_step_failed        300    300
+ *     royukezan_power_step_decoded       200    300
+ *     royukezan_power_step_failed        200    300
  *
  * Measured by host/stack.c (x86-64, gcc 12 with -O2) and rounded up to whole hundreds. Not in it: some 3 KB of a dynamic loader that looks up
  * memcpy, memmove or memset when it is first called; link with -z now, or statically, and it does that before. */

@@ -1,12 +1,15 @@
--- The place of a byte in a part: by the library's word for a first place, and the part as the code takes it.
-use Rattle.std.proofs.Common.{◌≡◌, ℕ, ◌+◌, ◌-◌, ◌≤◌, ◌==◌, Bool, true, false, cond, List, [], length, take, drop, min, Option, Some, None, refl, sym, ap, ◌∙◌, ltb, ltb-false, not, arith, inl, inr}
+-- The place of a byte in a part: by the library's word for a first place, the part as the code takes it, and by the part's first byte.
+use Rattle.std.proofs.Common.{◌≡◌, ℕ, suc, ◌+◌, ◌-◌, ◌<◌, ◌≤◌, ◌==◌, Bool, true, false, cond, List, [], length, get_or, take, drop, min}
+use Rattle.std.proofs.Common.{Option, Some, None, refl, sym, ap, ◌∙◌, ltb, ltb-false, not, add-one, arith, inl, inr}
 use Rattle.std.specs.List.{position_or_len}
 use Rattle.std.specs.Option.{unwrap_or}
 use Rattle.std.specs.Slice.{IsGetRangeResult}
 use Rattle.std.specs.Borrow.{Bor}
+use Rattle.std.proofs.Math.Seq.{slice-cons, slice_empty}
 use Rattle.std.proofs.lemmas.List.{length-take, take_min, drop_all, drop-take}
 use Rattle.std.proofs.lemmas.List.Recursion.{is_position_or_len}
 use Rattle.std.proofs.lemmas.List.Sums.{prefix_len-le-length}
+use borrow.Author.Tests.{eq-eqb, ne_eqb}
 use Rattle.byte_scan.specs.Bytes.{index_of, index_after, slice}
 
 -- the place of a byte is that of the first one that is equal
@@ -45,3 +48,36 @@ part_is s from to end (Some x) none is gets e =
     ∙ sym (drop-take from (end - from) s)
     ∙ ap (λ n. drop from (take n s)) whole
     ∙ ap (drop from) cut
+
+-- ---- by the part's first byte
+
+-- the part of no bytes
+pub index_none : (s : List ℕ) (b to : ℕ) → index_of b (slice to to s) ≡ 0
+unfolding index_of slice
+index_none s b to = ap (index_of b) (slice_empty to s)
+
+-- a part ends where the slice does
+module _ (s : List ℕ) (b i to end : ℕ) (is : end ≡ min to (length s)) where
+  pub index_cut : index_of b (slice i to s) ≡ index_of b (slice i end s)
+  unfolding slice
+  index_cut = ap (λ t. index_of b (drop i t)) (sym (ap (λ n. take n s) is ∙ take_min to s))
+
+  -- and has no bytes from there on
+  pub index_past : end ≤ i → index_of b (slice i to s) ≡ 0
+  unfolding index_of slice
+  index_past h = ap (index_of b) (drop_all i (take to s) (simp length-take (omega arith)))
+
+module _ (s : List ℕ) (b i to : ℕ) (h : i < to) (k : to ≤ length s) where
+  first : index_of b (slice i to s) ≡ index_after (get_or s i 0 == b) (index_of b (slice (i + 1) to s))
+  unfolding index_of slice
+  first = ap (index_of b) (slice-cons i to s 0 h k) ∙ ap (λ j. index_after (get_or s i 0 == b) (index_of b (drop j (take to s)))) (sym (add-one i))
+
+  -- the first byte is the one
+  pub index_here : get_or s i 0 ≡ b → index_of b (slice i to s) ≡ 0
+  unfolding index_after
+  index_here e = first ∙ ap (λ t. index_after t (index_of b (slice (i + 1) to s))) (eq-eqb _ _ e)
+
+  -- it is another: the place is one further than in the rest
+  pub index_on : (get_or s i 0 ≡ b → ⊥) → index_of b (slice i to s) ≡ suc (index_of b (slice (i + 1) to s))
+  unfolding index_after
+  index_on e = first ∙ ap (λ t. index_after t (index_of b (slice (i + 1) to s))) (ne_eqb _ _ e)

@@ -31,6 +31,10 @@ above_small z e =
 abbrev pub Tells : Handed PowerRecord Sent → HandedBack ToSend → Type 0
 Tells s h = (s.state ≡ h.power) × (told_answer s.answer ≡ h.answer)
 
+-- what is told, as one record
+pub told_whole : (s : Handed PowerRecord Sent) (h : HandedBack ToSend) → Tells s h → h ≡ record { power = s.state; answer = told_answer s.answer }
+told_whole s h t = λ i. record { power = sym t.0 i; answer = sym t.1 i }
+
 module _ (p : PowerParameters) (r : PowerRecord) (d : Decoded) (sqi : ℤ) where
   refuse : (s : Handed PowerRecord Sent) (why : Refusal) → stepped p r d sqi ≡ record { power = r; answer = refused_for why }
       → (s.state ≡ r) × (s.answer ≡ Err why) → Tells s (stepped p r d sqi)
@@ -51,7 +55,7 @@ module _ (p : PowerParameters) (r : PowerRecord) (d : Decoded) (sqi : ℤ) where
   unfolding stepped
   refuse_1 s h f g q = refuse s ReadingOutOfRange (rw (f, g, q)) h
 
-  stepped_is : well_formed r ≡ true → (parameters_in_range p && codes_in_range d) ≡ true → quality_in_range sqi ≡ true
+  pub stepped_is : well_formed r ≡ true → (parameters_in_range p && codes_in_range d) ≡ true → quality_in_range sqi ≡ true
       → stepped p r d sqi ≡ record { power = record_after p r d; answer = gives (sending p r d sqi) }
   unfolding stepped
   stepped_is f g q = rw (f, g, q)

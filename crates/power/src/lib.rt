@@ -2,15 +2,16 @@
 // steps; source document 000, clause 5.4, items 1 to 5.2.
 #![tactic(auto)]
 
-ghost use Rattle.std.specs.Prelude.{◌≡◌, ◌≤◌, pos, true, IfOk, OnOk, IfErr};
+ghost use Rattle.std.specs.Prelude.{◌≡◌, ◌≤◌, ◌&&◌, pos, true, IfOk, OnOk, IfErr};
 ghost use Rattle.std.specs.Bool.{then_some};
 ghost use Rattle.refusal.specs.Told.{refused_for, gives};
 ghost use Rattle.readings_rules.specs.Ranges.{quality_in_range};
 ghost use Rattle.power_rules.specs.Constants.{numeric_highest};
-ghost use Rattle.power_rules.specs.PowerSteps.{numeric, record_after, thousandths, par_to_send, pan_to_send};
+ghost use Rattle.power_rules.specs.PowerSteps.{parameters_in_range, codes_in_range, well_formed, numeric, record_after, thousandths, par_to_send, pan_to_send};
 ghost use Rattle.power_rules.specs.Calls.{stepped, sending};
 ghost use Rattle.power_rules.specs.Told.{told_answer};
 ghost use Rattle.power_rules.specs.Refusals.{InRange, WellFormed};
+ghost use Rattle.power_rules.specs.Code.{above_lowest, par_at, pan_at};
 
 use power_record::{
     MESTEP_STEP, NUMERIC_HIGHEST, THOUSANDTHS_HIGHEST, codes_in_range, parameters_in_range,
@@ -48,9 +49,9 @@ struct Accepted {
 
 impl Accepted {
     // The tests of a step, in the order in which they refuse.
-    #[tactic(auto, unfolding(power_rules::specs::Calls::stepped))]
     fn new(p: PowerParameters, r: PowerRecord, d: Decoded, sqi: i32) -> Result<Accepted, Refusal>
         ensures passed { IfOk result (λ a. (a.p ≡ p) × (a.r ≡ r) × (a.d ≡ d) × (a.sqi ≡ sqi)) }
+        ensures tests { OnOk result ((well_formed r ≡ true) × ((parameters_in_range p && codes_in_range d) ≡ true) × (quality_in_range sqi ≡ true)) }
         ensures accepted { OnOk result (stepped p r d sqi ≡ record { power = record_after p r d; answer = gives (sending p r d sqi) }) }
         ensures refused { IfErr result (λ why. stepped p r d sqi ≡ record { power = r; answer = refused_for why }) }
     {
@@ -103,7 +104,8 @@ impl Accepted {
     // Rule 2: the PAR to send: the code nearest to T, a half to the lower, as one less than half a code is added.
     fn par(self, panuse: u32) -> u32
         requires { panuse ≤ numeric_highest }
-        ensures { pos result ≡ par_to_send self.p panuse self.sqi }
+        ensures sent { pos result ≡ par_to_send self.p panuse self.sqi }
+        ensures code { result ≡ par_at self.p panuse (above_lowest self.sqi) }
     {
         let t = self.thousandths(panuse);
         let held = t.clamp(0, THOUSANDTHS_HIGHEST as i32) as u32;
@@ -113,7 +115,8 @@ impl Accepted {
     // Rule 4: the PAN to send, of the record after the step.
     fn pan(self, after: PowerRecord) -> u32
         requires { WellFormed after }
-        ensures { pos result ≡ pan_to_send self.p after }
+        ensures sent { pos result ≡ pan_to_send self.p after }
+        ensures code { result ≡ pan_at self.p after }
     {
         let whole = (CODE_STEP * after.panbasic).saturating_sub(after.increase) / CODE_STEP;
         whole.clamp(self.p.panmin, self.p.panmax)

@@ -35,25 +35,25 @@ pub const THOUSANDTHS_HIGHEST: u32 = 24_000;
 pub fn well_formed(r: PowerRecord) -> bool
     ensures { result ≡ well_formed r }
 {
-    r.panlast <= NUMERIC_HIGHEST
-        && r.parsave <= NUMERIC_HIGHEST
-        && r.panbasic <= NUMERIC_HIGHEST
-        && r.increase <= THOUSANDTHS_HIGHEST
-        && r.increase % MESTEP_STEP == 0
+    (r.panlast <= NUMERIC_HIGHEST)
+        & (r.parsave <= NUMERIC_HIGHEST)
+        & (r.panbasic <= NUMERIC_HIGHEST)
+        & (r.increase <= THOUSANDTHS_HIGHEST)
+        & (r.increase % MESTEP_STEP == 0)
 }
 
 // Each parameter in its range, and PANmin not above PANmax.
 pub fn parameters_in_range(p: PowerParameters) -> bool
     ensures { result ≡ parameters_in_range p }
 {
-    p.sqt <= SQT_HIGHEST
-        && p.paninit <= NUMERIC_HIGHEST
-        && p.panmin <= NUMERIC_HIGHEST
-        && p.panmax <= NUMERIC_HIGHEST
-        && p.panmin <= p.panmax
-        && p.gainup <= GAINUP_HIGHEST
-        && p.gaindn <= GAINDN_HIGHEST
-        && p.mestep <= MESTEP_HIGHEST
+    (p.sqt <= SQT_HIGHEST)
+        & (p.paninit <= NUMERIC_HIGHEST)
+        & (p.panmin <= NUMERIC_HIGHEST)
+        & (p.panmax <= NUMERIC_HIGHEST)
+        & (p.panmin <= p.panmax)
+        & (p.gainup <= GAINUP_HIGHEST)
+        & (p.gaindn <= GAINDN_HIGHEST)
+        & (p.mestep <= MESTEP_HIGHEST)
 }
 
 // A failed message has no codes; those of a decoded one are 0 to 63.

@@ -10,7 +10,6 @@ use lib.Dec.{eqb, leb, ltb}
 use borrow.Author.Tests.{leb-true, leb-false, lt-ltb, le-ltb}
 use Rattle.session_words.specs.Words.{words_of}
 use Rattle.session_words.proofs.Lists.{cond-true, cond-false}
-use Rattle.session_words.specs.Held.{held}
 use Rattle.session_lines.specs.Lines.{hash, longest, passed_over, kept, kept_of}
 use Rattle.session_state.specs.declared.State.{State}
 use Rattle.session_rows.specs.Calls.{only, malformed}
@@ -81,4 +80,4 @@ pub line_done : (n : ℕ) (st : State) (l : Line) (k : Kind) {size : ℕ} {first
     → ((m : ℕ) (s : State) → kind_written k m s first ≡ kept_written size first m s) → kind_written k n st first ≡ line_written n st (so_far l)
 unfolding so_far
 line_done n st l k {size} {first} e f by_kind =
-    by_kind n st ∙ ap₂ (λ i h. kept_written i h n st) e f ∙ by_kept n st (held l.bytes)
+    by_kind n st ∙ ap₂ (λ i h. kept_written i h n st) e f ∙ by_kept n st (so_far l)

@@ -1,8 +1,11 @@
 -- One step of reading: bytes without a newline only go to the line that has begun; with a newline they end it, and it is answered.
-use Prim.Native.Nat.{ℕ, suc, ◌≤◌, ◌<◌}
+use Prim.Native.Nat.{ℕ, suc, ◌+◌, ◌-◌, ◌≤◌, ◌<◌, ◌^◌}
 use mathlib.Core.Path.{◌≡◌, refl, sym, ap, ap₂, ◌∙◌}
 use mathlib.Core.List.{List, [], ◌∷◌, ◌++◌, append-nil}
+use native.Mathlib.Omega.{arith}
 use lib.ListN.{length, take, drop, drop_of_length-le}
+use mir.Syntax.{w64}
+use mir.Val.{Fits}
 use Rattle.byte_scan.specs.Bytes.{index_of}
 use Rattle.session_words.specs.Bytes.{newline}
 use Rattle.session_lines.specs.Lines.{lines_after, kept_of, kept, with_more}
@@ -14,6 +17,15 @@ use Rattle.session.specs.File.{line_written, following, answers_from, answers_of
 use Rattle.session.specs.Reading.{so_far, to_write, Unread, GoesOn}
 use Rattle.session.proofs.Cutting.{lines_on, lines_end}
 use Rattle.session.proofs.Kept.{kept_so_far, kept_more, line_kept, answers_kept}
+
+-- the greatest number of a line
+pub number_stays : (n : ℕ) → n ≡ 2 ^ 64 - 1 → n ≡ following n
+unfolding following
+number_stays n e = omega arith
+
+pub number_grows : (n : ℕ) → Fits w64 n → (n ≡ 2 ^ 64 - 1 → ⊥) → n + 1 ≡ following n
+unfolding following
+number_grows n f e = omega (arith, f, e)
 
 -- a line with more bytes, in the code and as bytes
 more_kept : (l m : Line) (bs : List ℕ) → kept m ≡ with_more (kept l) bs

@@ -1,5 +1,5 @@
 -- A session file that is read in blocks: what a block writes, and what is still to be written.
-use Rattle.std.specs.Prelude.{ℕ, ◌≤◌, ◌<◌, ◌≡◌, cond, List, [], ◌++◌, length, ltb}
+use Rattle.std.specs.Prelude.{ℕ, ◌≤◌, ◌<◌, ◌≡◌, cond, List, [], ◌∷◌, ◌++◌, length, leb, ltb}
 use Rattle.session_words.specs.Words.{words_of}
 use Rattle.session_words.specs.Held.{held}
 use Rattle.session_lines.specs.Lines.{longest, passed_over, lines_after}
@@ -13,9 +13,9 @@ use Rattle.session.specs.declared.lines.Kind.TheVariants.{PassedOver, NoCall, Ca
 use Rattle.session.specs.declared.blocks.Session.{Session}
 use Rattle.session.specs.File.{answers_from, answers_of}
 
--- the bytes of the line that has begun, as far as they are kept: of one that is too long to be a call its first bytes, one more than the longest
+-- the bytes of the line that has begun. Of one that is too long to be a call its first bytes are kept, and one byte stands for all others
 unfoldable pub so_far : Line → List ℕ
-so_far l = held l.bytes
+so_far l = cond (leb l.bytes.length longest) (held l.bytes) (l.bytes.bytes ++ (0 ∷ []))
 
 -- what a line does and writes, by its length and its first bytes
 unfoldable pub kept_written : ℕ → List ℕ → ℕ → State → Written

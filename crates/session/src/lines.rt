@@ -6,9 +6,9 @@ ghost use Rattle.session_rows.specs.Calls.{only};
 ghost use Rattle.session.specs.File.{line_written, following};
 ghost use Rattle.session.specs.Reading.{so_far, kept_written, kind_written};
 
-use session_answers::{of_error, of_watch};
+use session_answers::of_watch;
 use session_lines::{LONGEST, Line};
-use session_rows::make;
+use session_rows::{ROWS, make};
 use session_state::State;
 use session_texts::Text;
 use session_watch::{WATCH_ROWS, watch_row};
@@ -57,7 +57,7 @@ pub fn answer(state: &mut State, number: u64, kind: Kind, held: &[u8]) -> Text
 {
     match kind {
         Kind::PassedOver => Text::new(),
-        Kind::NoCall => of_error(number),
+        Kind::NoCall => make(state, number, ROWS, held),
         Kind::Call(row) => make(state, number, row, held),
     }
 }

@@ -1,5 +1,5 @@
 -- Session files, section Lines: how the bytes of a file are cut into lines, and what is kept of a line that is being read.
-use Rattle.std.specs.Prelude.{ℕ, suc, ◌+◌, min, Bool, true, cond, List, [], ◌∷◌, ◌++◌, length, take, eqb, ltb}
+use Rattle.std.specs.Prelude.{ℕ, suc, ◌+◌, min, Bool, true, cond, List, [], ◌∷◌, ◌++◌, length, take, eqb, leb, ltb}
 use Rattle.session_words.specs.Bytes.{newline}
 use Rattle.session_words.specs.Held.{held}
 use Rattle.session_lines.specs.declared.Line.{Line}
@@ -38,9 +38,9 @@ pub record Kept : Type 0 where
 abbrev pub kept_of : List ℕ → Kept
 kept_of s = record { size = min (length s) (suc longest); first = take longest s }
 
--- what a line of the code keeps
+-- what a line of the code keeps: of one that is too long to be a call its first bytes, and one byte that stands for all others
 abbrev pub kept : Line → Kept
-kept l = kept_of (held l.bytes)
+kept l = kept_of (cond (leb l.bytes.length longest) (held l.bytes) (l.bytes.bytes ++ (0 ∷ [])))
 
 -- what is kept once more bytes have come
 unfoldable pub with_more : Kept → List ℕ → Kept

@@ -1,21 +1,18 @@
 // The line that is being read: its bytes so far, as they come in blocks.
 #![tactic(auto)]
 
-ghost use Rattle.std.specs.Prelude.{◌≡◌, []};
-ghost use Rattle.session_lines.specs.Lines.{kept, kept_of, with_more};
+ghost use Rattle.std.specs.Prelude.{◌≡◌, ◌≤◌, [], length};
+ghost use Rattle.session_lines.specs.Lines.{longest, kept, kept_of, with_more};
 
 use session_words::Held;
 
 // The longest line that may be a call, without its newline.
 pub const LONGEST: usize = 200;
 
-// One byte more is kept: it tells that a line is too long.
-const KEPT: usize = LONGEST + 1;
-
-// The first bytes of a line, as far as it was read.
+// The first bytes of a line, as far as it was read. A greater length than the longest stands for any such: its first bytes alone are kept.
 #[derive(Clone, Copy)]
 pub struct Line {
-    pub bytes: Held<KEPT>,
+    pub bytes: Held<LONGEST>,
 }
 
 impl Line {
@@ -30,22 +27,32 @@ impl Line {
     pub fn push(&mut self, more: &[u8])
         ensures { kept self.new ≡ with_more (kept self.old) more.now }
     {
+        let room = self.room();
+        let size = self.size() + more.len();
         self.bytes.push(more);
+        self.bytes.length = if size <= room { size } else { room + 1 };
     }
 
     // Its length; one above the longest stands for all greater ones.
     pub fn size(&self) -> usize
         ensures { result ≡ (kept self.now).size }
     {
-        self.bytes.as_slice().len()
+        self.bytes.length.min(self.room() + 1)
     }
 
     // Its first bytes, at most the longest.
-    #[tactic(auto, using(std::proofs::lemmas::List::take_min))]
+    #[tactic(auto, using(crate::proofs::Growing::first_is))]
     pub fn first(&self) -> &[u8]
         ensures { result.now ≡ (kept self.now).first }
     {
-        let bytes = self.bytes.as_slice();
-        &bytes[..LONGEST.min(bytes.len())]
+        &self.bytes.bytes[..self.bytes.length.min(self.room())]
+    }
+
+    // The longest line finds room.
+    fn room(&self) -> usize
+        ensures longest { result ≡ longest }
+        ensures within { longest ≤ length self.now.bytes.bytes }
+    {
+        self.bytes.bytes[..LONGEST].len()
     }
 }

@@ -1,4 +1,4 @@
--- Decimals: digits before a point and after it are the digits of one whole number.
+-- Decimals: digits before a point and after it are the digits of one whole number, and a few digits make a number that a single float holds.
 use Prim.Native.Nat.{ℕ, suc, ◌+◌, ◌-◌, ◌*◌, ◌^◌, ◌≤◌, ◌<◌}
 use Rattle.std.proofs.Common.{◌≡◌, Bool, true, false, cond, ◌&&◌, List, [], ◌∷◌, ◌++◌, length, take}
 use Rattle.std.proofs.Common.{drop, leb, ltb, None, Some, refl, sym, ap, ◌∙◌, arith, le-leb, add-one, ◌==◌}
@@ -6,6 +6,9 @@ use Rattle.std.specs.List.{position_or_len}
 use Rattle.byte_scan.proofs.Places.{index_is}
 use Rattle.std.specs.Prelude.{option_map, Float}
 use Rattle.std.proofs.lemmas.Bool.{lt-leb}
+use lib.Dec.{T, le→leb}
+use lib.IntN.{pos}
+use lib.Ieee.{binary32, in_float}
 use native.Mathlib.Nat.{pow-suc, mul_assoc, mul_comm, mul-one, zero-add, add-zero, add-mul}
 use native.Mathlib.Decide.{dec_le}
 use borrow.Author.Tests.{leb-true}
@@ -142,3 +145,9 @@ module _ (s : List ℕ) where
           ≡ cond t (fraction_of (take at s) (drop (suc at) s)) (option_map (λ v. quotient v 0) (digits_of decimal_digits s))
       go true e = cc
       go false e = refl
+
+-- ---- a single float holds such numbers
+
+pub held : (n : ℕ) → n ≤ 10000000 → T (in_float binary32 (pos n))
+unfolding in_float
+held n h = le→leb n 16777216 (omega arith)

@@ -13,7 +13,7 @@ use Rattle.session_numbers.specs.Code.{digit_in, run_after}
 decimal_digit : (b : ℕ) → digit_in 10 b ≡ cond (is_digit b) (Some (b - 48)) None
 decimal_digit b = grind (arith, nat_tests)
 
-hexadecimal_digit : (b : ℕ) → digit_in 16 b ≡ cond (is_hex_digit b) (Some (hex_digit b)) None
+pub hexadecimal_digit : (b : ℕ) → digit_in 16 b ≡ cond (is_hex_digit b) (Some (hex_digit b)) None
 hexadecimal_digit b = grind (arith, nat_tests)
 
 pub run_ten : (v : ℕ) (s : List ℕ) → run_after 10 v s ≡ cond (all_digits s) (Some (value_after v s)) None

@@ -1,8 +1,8 @@
-// The numbers of a session file: whole numbers, as far as a type holds them, and single floats.
+// The numbers of a session file: whole numbers in a range or as far as a type holds them, and single floats.
 #![tactic(auto)]
 
 ghost use Rattle.std.specs.Prelude.{◌≡◌, ◌^◌, ◌<◌, ◌≤◌, length, IfSome, OnSome};
-ghost use Rattle.session_numbers.specs.Numbers.{digits_of, whole_of, quotient, fraction_of, unsigned_of, decimal_of, bits_of, num_of};
+ghost use Rattle.session_numbers.specs.Numbers.{digits_of, whole_of, natural_of, int_of, quotient, fraction_of, unsigned_of, decimal_of, bits_of, num_of};
 ghost use Rattle.session_numbers.specs.Code.{digit_in, run_in, Told};
 
 use std::num::f32_from_bits_with_nan;
@@ -14,6 +14,11 @@ const DECIMAL_DIGITS: usize = 7;
 
 // The digits of a float's bits.
 const BITS_DIGITS: usize = 8;
+
+// The highest CH and BYTE.
+pub const CH_HIGHEST: u64 = 65_535;
+
+pub const BYTE_HIGHEST: u64 = 255;
 
 // The value of a digit; a letter is one in lower case alone.
 fn digit(b: u8, radix: u32) -> Option<u32>
@@ -71,6 +76,21 @@ where
     ensures { Told T.try_from_gives (whole_of word.now) result }
 {
     T::try_from(whole(word)?).ok()
+}
+
+// A whole number from 0 to the highest, as CH and BYTE are.
+pub fn natural(word: &[u8], highest: u64) -> Option<u64>
+    ensures value { result ≡ natural_of highest word.now }
+    ensures most { IfSome result (λ n. n ≤ highest) }
+{
+    whole_number::<u64>(word).filter(|n| *n <= highest)
+}
+
+// A whole number of 32 bits with a sign.
+pub fn int(word: &[u8]) -> Option<i32>
+    ensures { result ≡ int_of word.now }
+{
+    whole_number::<i32>(word)
 }
 
 // A float by its bits, 8 lower-case hex digits.

@@ -1,14 +1,14 @@
--- A number's digits as `io` writes them, and which float is a NaN.
+-- A number's digits as `io` writes them, which float is a NaN, and which floats equal themselves.
 use Prim.Native.Nat.{ℕ, zero, suc, ◌+◌, ◌-◌, ◌*◌, ◌/◌, ◌%◌, ◌^◌, ◌≤◌, ◌<◌}
 use mathlib.Core.Path.{◌≡◌, refl, sym, ap, subst, ◌∙◌}
-use mathlib.Core.Bool.{Bool, true, false}
+use mathlib.Core.Bool.{Bool, true, false, not, ◌&&◌, beq}
 use mathlib.Core.List.{[], ◌∷◌, ◌++◌}
 use native.Mathlib.Nat.{pow-suc, pow-le-pow_right, div-lt_iff_lt-mul, le_trans, lt_of_not-le}
 use native.Mathlib.Decide.{dec_le, dec_lt}
 use native.Mathlib.Omega.{arith}
-use lib.Dec.{lit<}
-use lib.Ieee.{Float, nan, inf, fin, is_nan}
-use borrow.Author.Tests.{lt-ltb, le-ltb}
+use lib.Dec.{T, lit<}
+use lib.Ieee.{Float, nan, inf, fin, is_nan, eq, up, down}
+use borrow.Author.Tests.{lt-ltb, le-ltb, eq-eqb}
 use Rattle.io.specs.Digits.{hex_digit_ascii, last_digits, IsDigitCount}
 use Rattle.session_texts.specs.Text.{final_digits, decimal_text}
 use Rattle.session_words.proofs.Lists.{cond-true, cond-false}
@@ -87,3 +87,28 @@ unfolding is_nan
 nan_is nan e = refl
 nan_is (inf s) e = let z : ◌≡◌ {A = Bool} false true = e in cc
 nan_is (fin s m k) e = let z : ◌≡◌ {A = Bool} false true = e in cc
+
+-- ---- a float equals itself unless it is a NaN
+
+pub equal_itself : (x : Float) → is_nan x ≡ false → eq x x ≡ true
+unfolding is_nan eq
+equal_itself nan e = let z : ◌≡◌ {A = Bool} true false = e in sym z
+equal_itself (inf s) e = alike s
+  where
+    alike : (s : Bool) → beq s s ≡ true
+    alike true = refl
+    alike false = refl
+equal_itself (fin true m k) e = ap (λ x. x && true) (eq-eqb (m * up k * down k) (m * up k * down k) refl)
+equal_itself (fin false m k) e = ap (λ x. x && true) (eq-eqb (m * up k * down k) (m * up k * down k) refl)
+
+pub no_nan : (x : Float) → eq x x ≡ true → T (not (is_nan x))
+unfolding is_nan eq
+no_nan nan e = let z : ◌≡◌ {A = Bool} false true = e in subst (λ b. T b) (sym z) tt
+no_nan (inf s) e = tt
+no_nan (fin s m k) e = tt
+
+pub is_nan_lem : (x : Float) → eq x x ≡ false → nan ≡ x
+unfolding is_nan
+is_nan_lem nan e = refl
+is_nan_lem (inf s) e = let z : ◌≡◌ {A = Bool} true false = sym (equal_itself (inf s) refl) ∙ e in cc
+is_nan_lem (fin s m k) e = let z : ◌≡◌ {A = Bool} true false = sym (equal_itself (fin s m k) refl) ∙ e in cc

@@ -41,7 +41,7 @@ impl Text {
     pub fn push_byte(&mut self, byte: u8)
         ensures { said self.new ≡ take room (said self.old ++ byte ∷ []) }
     {
-        self.push(&[byte]);
+        self.bytes.push_byte(byte);
     }
 
     // Adds bytes, as far as there is room.

@@ -1,6 +1,6 @@
 -- A text cut at each byte of a kind, as a line is at its spaces and a table at its newlines: the part that begins at a place and ends where the
 -- search for that byte does, and the parts after it.
-use Prim.Native.Nat.{ℕ, suc, ◌+◌, ◌-◌, ◌≤◌, ◌<◌}
+use Prim.Native.Nat.{ℕ, zero, suc, ◌+◌, ◌-◌, ◌≤◌, ◌<◌}
 use mathlib.Core.Path.{◌≡◌, refl, sym, ap, ap₂, ◌∙◌}
 use mathlib.Core.Bool.{Bool, true, false, cond}
 use mathlib.Core.List.{List, [], ◌∷◌}
@@ -109,3 +109,18 @@ words_of_lem b s = refl
 module _ (s : List ℕ) {i p : ℕ} (within : i ≤ length s) (ends : p ≡ i + index_of space (slice i (length s) s)) where
   pub word_at_lem : words_of (drop i s) ≡ between s i p ∷ after words_of s p
   word_at_lem = part_at space words_of words_none words_of_lem s i p within ends
+
+  pub last_word : p ≡ length s → words_of (drop i s) ≡ between s i p ∷ []
+  last_word e = word_at_lem ∙ ap (λ r. between s i p ∷ r) (none_after words_of s p e)
+
+  pub next_word : p < length s → words_of (drop i s) ≡ between s i p ∷ words_of (drop (p + 1) s)
+  next_word h = word_at_lem ∙ ap (λ r. between s i p ∷ r) (some_after words_of s p h)
+
+-- a line has a word, if only an empty one
+pub some_words : (s : List ℕ) → 0 < length (words_of s)
+some_words s = omega (arith, ap length (word_at_lem s {i = 0} {p = 0 + index_of space (slice 0 (length s) s)} (omega arith) refl))
+
+-- a word after the first
+pub later_word : (w : List ℕ) (ws : List (List ℕ)) (n : ℕ) → 0 < n → word_at (w ∷ ws) n ≡ word_at ws (n - 1)
+later_word w ws zero h = let z : ⊥ = omega arith in absurd z
+later_word w ws (suc n) h = let e : n ≡ suc n - 1 = omega arith in ap (word_at ws) e

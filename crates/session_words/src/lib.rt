@@ -1,7 +1,7 @@
 // The words of a line of a session file: what stands between its spaces. Bytes copied into a buffer, as far as there is room.
 #![tactic(auto)]
 
-ghost use Rattle.std.specs.Prelude.{◌≡◌, ◌+◌, ◌≤◌, [], ◌++◌, length, take};
+ghost use Rattle.std.specs.Prelude.{◌≡◌, ◌+◌, ◌≤◌, [], ◌∷◌, ◌++◌, length, take};
 ghost use Rattle.std.proofs.Math.Seq.{paste};
 ghost use Rattle.session_words.specs.Bytes.{alike, fitting};
 ghost use Rattle.session_words.specs.Words.{words_of, word_at};
@@ -56,6 +56,16 @@ impl<const N: usize> Held<N> {
         ensures { held self.new ≡ take N (held self.old ++ more.now) }
     {
         self.length = copy_to(&mut self.bytes, self.length.min(N), more);
+    }
+
+    // Adds a byte, if there is room: one store, where `push` would call for the copy of a slice.
+    pub fn push_byte(&mut self, byte: u8)
+        ensures { held self.new ≡ take N (held self.old ++ byte ∷ []) }
+    {
+        if self.length < N {
+            self.bytes[self.length] = byte;
+            self.length += 1;
+        }
     }
 }
 

@@ -106,7 +106,9 @@ fn ends_clear(map: &[u64; WORDS]) -> bool
     (low % (1u64 << FIRST_SWEPT) == 0) & ((high >> (LAST_SWEPT % WORD_BITS + 1)) % 2 == 0)
 }
 
-// Whether a record is well formed. It goes through the levels and the maps once, a word of 64 channels at a time.
+// Whether a record is well formed. It goes through the levels and the maps once, a word of 64 channels at a time. By itself in what is compiled, so
+// that a call tests the record where it was given.
+#[inline(never)]
 fn well_formed(sweep: &Sweep) -> bool
     ensures { result ≡ well_formed sweep.now }
 {

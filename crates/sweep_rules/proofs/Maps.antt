@@ -1,6 +1,6 @@
 -- Laws of a map: its bits word by word, their number, and a map with one bit more. A channel's bit stands in one word, so that a change of
 -- that word changes no other channel's.
-use Prim.Native.Nat.{ℕ, suc, ◌+◌, ◌*◌, ◌/◌, ◌%◌, ◌^◌, ◌<◌}
+use Prim.Native.Nat.{ℕ, suc, ◌+◌, ◌-◌, ◌*◌, ◌/◌, ◌%◌, ◌^◌, ◌<◌}
 use mathlib.Core.Path.{◌≡◌, refl, sym, ap, ap₂, ◌∙◌}
 use mathlib.Core.Bool.{Bool, true, false, ◌||◌}
 use mathlib.Core.List.{List, [], ◌∷◌}
@@ -9,13 +9,13 @@ use native.Mathlib.Nat.{zero-add, eq-or-lt_of_le}
 use native.Mathlib.Omega.{arith}
 use lib.ListN.{length, get_or, set}
 use lib.Seq.{get_or-set_same, get_or-set_other}
-use lib.Count.{ones}
+use lib.Count.{ones, count_trailing_zeros}
 use lib.Dec.{ltb}
 use borrow.Author.Tests.{eq-eqb, ne_eqb, ltb-true, ltb-false}
 use Rattle.sweep_rules.specs.Map.{bit_at, is_set, with_bit, how_many, set_bits}
 use Rattle.sweep_rules.specs.Claims.{ones_of, OnesAreChannels, OneBitSet}
 use Rattle.sweep_rules.proofs.Tests.{which, same_or_not, many_split, many_same}
-use Rattle.sweep_rules.proofs.Words.{ones_bits, set_it, set_below, set_above}
+use Rattle.sweep_rules.proofs.Words.{ones_bits, set_it, set_below, set_above, run_in_word, run_at_clear}
 
 -- ---- the number of set bits
 
@@ -26,6 +26,24 @@ set_in_word m i k h =
     let a : (i * 64 + k) / 64 ≡ i = omega arith in
     let b : (i * 64 + k) % 64 ≡ k = omega arith in
     ap (λ (j : ℕ). bit_at (get_or m j 0) ((i * 64 + k) % 64)) a ∙ ap (bit_at (get_or m i 0)) b
+
+-- the set bits from channel c on, in its word
+module _ (m : List ℕ) (c : ℕ) (h : get_or m (c / 64) 0 < 2 ^ 64) where
+  abbrev run : ℕ
+  run = count_trailing_zeros 64 (2 ^ 64 - 1 - get_or m (c / 64) 0 / 2 ^ (c % 64))
+
+  pub set_in_run : (j : ℕ) → j < run → is_set m (c + j) ≡ true
+  unfolding is_set
+  set_in_run j l =
+      let r = run_in_word (get_or m (c / 64) 0) (c % 64) h j l in
+      let s = r.0 in
+      let a : (c + j) / 64 ≡ c / 64 = omega arith in
+      let b : (c + j) % 64 ≡ c % 64 + j = omega arith in
+      ap (λ (i : ℕ). bit_at (get_or m i 0) ((c + j) % 64)) a ∙ ap (bit_at (get_or m (c / 64) 0)) b ∙ r.1
+
+  pub clear_at_none : run ≡ 0 → is_set m c ≡ false
+  unfolding is_set
+  clear_at_none z = run_at_clear (get_or m (c / 64) 0) (c % 64) h z
 
 -- the channels of a map without its first word
 set_in_tail : (w : ℕ) (ws : List ℕ) (c : ℕ) → is_set (w ∷ ws) (64 + c) ≡ is_set ws c

@@ -9,13 +9,13 @@ use native.Mathlib.Numerals.{add-one, one-add}
 use native.Mathlib.Omega.{arith}
 use lib.Count.{ones, ones_step, ones-le, count_trailing_zeros, under}
 use lib.Bits.{bit_and, and_step, and_shr}
-use lib.Pow.{field, mod-mod-pow, shr-shr, shr_le, pow_mono, mod-pow-add, split, high, pow_pos, pow-add, pow-lt}
-use lib.Arith.{lt-one}
+use lib.Pow.{field, mod-mod-pow, shr-shr, shr_lt, shr_le, pow_mono, mod-pow-add, split, high, pow_pos, pow-add, pow-lt}
+use lib.Arith.{digits_lt, lt-one}
 use lib.Dec.{lit<, eqb}
 use borrow.Author.Tests.{eqb-true, eqb-false, eq-eqb}
 use Rattle.sweep_rules.specs.Map.{bit_at, all_below, how_many}
 use Rattle.sweep_rules.specs.Record.{implies}
-use Rattle.sweep_rules.proofs.Tests.{which, same_test, implied, follows, each_all, all_each}
+use Rattle.sweep_rules.proofs.Tests.{which, fails, same_test, implied, follows, each_all, all_each}
 
 -- the bit as a digit
 
@@ -127,6 +127,14 @@ set_split : (w k : ℕ) → w / 2 ^ k % 2 ≡ 0 → w + 2 ^ k ≡ w / 2 ^ suc k 
 set_split w k h = ap (λ (n : ℕ). n + 2 ^ k) (clear_split w k h) ∙ add_assoc (w / 2 ^ suc k * 2 ^ suc k) (w % 2 ^ k) (2 ^ k)
 
 module _ (w k : ℕ) (clear : bit_at w k ≡ false) where
+  pub set_fits : w < 2 ^ 64 → k < 64 → w + 2 ^ k < 2 ^ 64
+  set_fits hw hk =
+      let e : 63 - k + suc k ≡ 64 = omega arith in
+      let q : w / 2 ^ suc k < 2 ^ (63 - k) = shr_lt (63 - k) (suc k) (subst (λ (n : ℕ). w < 2 ^ n) (sym e) hw) in
+      let p : 2 ^ (63 - k) * 2 ^ suc k ≡ 2 ^ 64 = sym (pow-add 2 (63 - k) (suc k)) ∙ ap (λ (n : ℕ). 2 ^ n) e in
+      subst (λ (n : ℕ). n < 2 ^ 64) (sym (set_split w k (digit_zero w k clear)))
+      (subst (λ (n : ℕ). w / 2 ^ suc k * 2 ^ suc k + (w % 2 ^ k + 2 ^ k) < n) p (digits_lt q (low_lt w k)))
+
   -- the bit is set
   pub set_it : bit_at (w + 2 ^ k) k ≡ true
   set_it =
@@ -204,3 +212,9 @@ module _ (w s : ℕ) (h : w < 2 ^ 64) where
             not-suc-le-zero {n = 0} (omega arith)),
         b,
       )
+
+  pub run_at_clear : count_trailing_zeros 64 (2 ^ 64 - 1 - w / 2 ^ s) ≡ 0 → bit_at w s ≡ false
+  run_at_clear z = fails (bit_at w s) (λ b.
+      let t = count_trailing_zeros 63 (2 ^ 63 - 1 - w / 2 ^ s / 2) in
+      let e : 0 ≡ suc t = sym z ∙ run_step 63 (w / 2 ^ s) rest_lt ∙ ap (λ (n : ℕ). under (1 - n) t) (digit_one w s b) in
+      not-suc-le-zero {n = 0} (omega arith))

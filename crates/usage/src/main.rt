@@ -28,10 +28,10 @@ fn say_refused(out: &mut impl Write, why: Refusal) -> fmt::Result {
     writeln!(out, "refused {number}")
 }
 
-// A call that gives no value: what is said where it is accepted.
+// A call that gives no value: the line that is said where it is accepted, in one write.
 fn say_outcome(out: &mut impl Write, what: &str, answer: Result<(), Refusal>) -> fmt::Result {
     match answer {
-        Ok(()) => writeln!(out, "{what}"),
+        Ok(()) => out.write_str(what),
         Err(why) => say_refused(out, why),
     }
 }
@@ -96,7 +96,7 @@ fn say_choice(out: &mut impl Write, sweep: Sweep) -> fmt::Result {
 // A record that was kept by the caller can be tested.
 fn say_sweep(out: &mut impl Write) -> fmt::Result {
     let sweep = swept();
-    say_outcome(out, "sweep well formed", sweep::check(sweep).answer)?;
+    say_outcome(out, "sweep well formed\n", sweep::check(sweep).answer)?;
     say_counts(out, sweep)?;
     say_choice(out, sweep)
 }
@@ -156,7 +156,7 @@ fn say_power(out: &mut impl Write) -> fmt::Result {
     }
     say_outcome(
         out,
-        "power record well formed",
+        "power record well formed\n",
         power::check(stepped.state).answer,
     )
 }

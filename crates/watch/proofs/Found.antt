@@ -3,6 +3,7 @@
 use Prim.Native.Nat.{ℕ, ◌<◌}
 use mathlib.Core.Path.{◌≡◌, sym, ap, ◌∙◌}
 use mathlib.Core.Bool.{true, false}
+use native.Mathlib.Omega.{arith}
 use lib.ListN.{take, get_or}
 use Rattle.watch_rules.specs.declared.Watch.{Watch}
 use Rattle.watch_rules.specs.Lists.{mem}
@@ -16,7 +17,7 @@ use Rattle.watch_record.proofs.Scan.{channels_rows}
 use Rattle.std.specs.Prelude.{Option, Some, None}
 use Rattle.std.specs.List.{position}
 use Rattle.watch_record.proofs.Places.{has, place_none}
-use Rattle.watch_record.proofs.Tracks.{place_among}
+use Rattle.watch_record.proofs.Tracks.{place_among, place_outside}
 use Rattle.watch_record.proofs.Watched.{place_in, found_place, found_below, found_track}
 
 -- what was sought is sought in the watch itself
@@ -30,6 +31,9 @@ module _ (w : Watch) (c : ℕ) (formed : well_formed w ≡ true) where
 
   pub place_watched : place_in w c < w.watched → watched (view_of w) c ≡ true
   place_watched h = among ∙ place_among w.depth w.watched c w.tracks (formed_tracks w formed) h
+
+  pub place_unwatched : place_in w c ≡ w.watched → watched (view_of w) c ≡ false
+  place_unwatched h = among ∙ place_outside w.depth w.watched c w.tracks (formed_tracks w formed) (omega arith)
 
   pub unfound : None ≡ position (has c) (take w.watched w.tracks) → watched (view_of w) c ≡ false
   unfound e = among ∙ place_none c (take w.watched w.tracks) e

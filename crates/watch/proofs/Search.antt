@@ -1,6 +1,6 @@
 -- The verdict: going through the list in its order finds the neighbour that the rule names. What is found so far is the best of those gone
 -- through, by sum and then by channel; at the end that is the strongest that counts.
-use Prim.Native.Nat.{ℕ, ◌≤◌, ◌<◌}
+use Prim.Native.Nat.{ℕ, zero, suc, ◌≤◌, ◌<◌}
 use mathlib.Core.Path.{◌≡◌, refl, sym, ap, ◌∙◌, subst, fun_ext}
 use mathlib.Core.Bool.{Bool, true, false, cond, ◌||◌, or-true, or-false}
 use mathlib.Core.List.{List, [], ◌∷◌, map}
@@ -8,21 +8,25 @@ use native.Mathlib.Omega.{arith}
 use lib.Dec.{eqb, leb}
 use lib.IntN.{ℤ, pos, ◌+ℤ◌, ◌*ℤ◌}
 use lib.Signed.{lt_z, le_z, ◌≤ℤ◌, ◌<ℤ◌}
-use lib.ListN.{length}
+use lib.ListN.{length, take, get_or}
 use borrow.Author.Tests.{eqb-true, eq-eqb, le-leb, leb-true, leb-false}
 use Rattle.std.proofs.lemmas.Int.{ints}
 use Rattle.std.specs.Prelude.{Option, Some, None, fold}
 use Rattle.watch_rules.specs.declared.Track.{Track}
+use Rattle.watch_rules.specs.declared.Watch.{Watch}
 use Rattle.watch_rules.specs.Lists.{mem, sum}
 use Rattle.watch_rules.specs.Told.{wait}
 use Rattle.watch_rules.specs.Rules.{View, serving_levels, target, stay_or_move, verdict_of}
 use Rattle.watch_rules.specs.Rows.{Row, row, channels, levels_of, shown}
-use Rattle.watch_rules.specs.Record.{row_of}
+use Rattle.watch_rules.specs.Record.{view_of, row_of, tracks_fine, track_fine, well_formed}
 use Rattle.watch_rules.proofs.Laws.{by_case, clash, and_left, and_right, and_both, or_true_right}
 use Rattle.watch_rules.proofs.Good.{Good}
+use Rattle.watch_rules.proofs.Encode.{track_levels}
+use Rattle.watch_rules.proofs.Calls.{formed_tracks, fine_at}
 use Rattle.watch_rules.proofs.Own.{Own, own_rest}
 use Rattle.watch_rules.proofs.Order.{lt_yes, lt_no, yes_lt, le_yes}
 use Rattle.watch_rules.proofs.Verdict.{Counts, Strongest, Ranged, target_some, target_none, yes_full, no_full, verdict_full, verdict_waits}
+use Rattle.watch_record.specs.Code.{nothing}
 use Rattle.watch.specs.declared.Pick.{Pick}
 use Rattle.watch.specs.Code.{able, better_of, better_with, consider, scan, chosen}
 
@@ -206,3 +210,24 @@ pub scan_tracks : (depth : ℕ) (b : ℤ) (o : Option Pick) (ts : List Track)
     → fold (λ best track. consider depth b best (row_of track)) o ts ≡ scan depth b o (map row_of ts)
 scan_tracks depth b o [] = refl
 scan_tracks depth b o (t ∷ ts) = scan_tracks depth b (consider depth b o (row_of t)) ts
+
+-- ---- of a watch
+
+early_tracks : (depth n : ℕ) (ts : List Track) (h : ℤ) → tracks_fine depth n ts ≡ true → (n ≡ 0 → ⊥) → length (row_of (get_or ts 0 nothing)).levels < depth
+    → verdict_of (shown depth (map row_of (take n ts))) h ≡ wait
+early_tracks depth zero ts h e z few = absurd (z refl)
+early_tracks depth (suc n) [] h e z few = clash e refl
+early_tracks depth (suc n) (t ∷ ts) h e z few = verdict_early depth (row_of t) (map row_of (take n ts)) h few
+
+module _ (w : Watch) (formed : well_formed w ≡ true) (active : w.watched ≡ 0 → ⊥) where
+  abbrev pub server : Track
+  server = get_or w.tracks 0 nothing
+
+  pub server_fine : track_fine w.depth server ≡ true
+  server_fine = fine_at w.depth w.watched 0 w.tracks nothing (formed_tracks w formed) (omega arith)
+
+  server_count : length (row_of server).levels ≡ server.count
+  server_count = (track_levels w.depth server server_fine).counted
+
+  pub watch_waits : (h : ℤ) → server.count < w.depth → verdict_of (view_of w) h ≡ wait
+  watch_waits h few = early_tracks w.depth w.watched w.tracks h (formed_tracks w formed) active (omega (arith, server_count))

@@ -92,10 +92,8 @@ fn mean(levels: &[i16]) -> i32
 pub fn ask(w: Watch, channel: u16) -> Handed<Watch, Answer>
     ensures { told_handed result ≡ called w (Call.ask channel) }
 {
-    Handed {
-        state: w,
-        answer: asked(&w, channel),
-    }
+    let answer = asked(&w, channel);
+    Handed { state: w, answer }
 }
 
 fn asked(w: &Watch, channel: u16) -> Result<Answer, Refusal>
@@ -168,10 +166,8 @@ impl Bar {
 pub fn verdict(w: Watch, hysteresis: i32) -> Handed<Watch, Answer>
     ensures { told_handed result ≡ called w (Call.verdict hysteresis) }
 {
-    Handed {
-        state: w,
-        answer: judged(&w, hysteresis),
-    }
+    let answer = judged(&w, hysteresis);
+    Handed { state: w, answer }
 }
 
 // Wait while the serving channel has fewer levels than the depth; else move to the best neighbour that counts, or stay.

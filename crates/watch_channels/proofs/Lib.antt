@@ -1,2 +1,3 @@
--- The laws of a new beam.
+-- The laws that the proofs of these calls share.
+pub mod ListScan
 pub mod NewBeam

@@ -4,8 +4,7 @@ use mathlib.Core.Path.{◌≡◌, refl, sym, ap, ◌∙◌}
 use mathlib.Core.List.{List, [], ◌∷◌, ◌++◌, map}
 use native.Mathlib.Omega.{arith}
 use lib.ListN.{length, take, get_or, set, length-map}
-use lib.Seq.{length-take-le, take-suc}
-use native.Mathlib.Numerals.{add-one}
+use lib.Seq.{length-take-le}
 use Rattle.watch_rules.specs.declared.Track.{Track}
 use Rattle.watch_rules.specs.Lists.{pad_to}
 use Rattle.watch_rules.specs.Limits.{list_limit, room}
@@ -13,9 +12,7 @@ use Rattle.watch_rules.specs.Rows.{Row, row, levels_of, relisted}
 use Rattle.watch_rules.specs.Record.{track_of, unused}
 use Rattle.watch_rules.proofs.Relist.{length_relisted}
 use Rattle.watch_record.proofs.Tracks.{pad_to_snoc}
-
-more : (l : List ℕ) (i : ℕ) → i < length l → take (i + 1) l ≡ take i l ++ get_or l i 0 ∷ []
-more l i inside = ap (λ (k : ℕ). take k l) (add-one i) ∙ take-suc l i 0 inside
+use Rattle.watch_channels.proofs.ListScan.{more}
 
 map_snoc : {A B : Type 0} (f : A → B) (l : List A) (a : A) → map f (l ++ a ∷ []) ≡ map f l ++ f a ∷ []
 map_snoc f [] a = refl

@@ -3,10 +3,10 @@
 // `watch::start` and `watch::new_beam`.
 #![tactic(auto)]
 
-ghost use Rattle.std.specs.Prelude.{◌≡◌, [], ◌≤◌, length};
-ghost use Rattle.refusal.specs.Told.{accepted, told};
+ghost use Rattle.std.specs.Prelude.{◌≡◌, [], ◌∷◌, ◌≤◌, length, OnOk, IfErr};
+ghost use Rattle.refusal.specs.Told.{accepted, told, gives, refused_for};
 ghost use Rattle.watch_rules.specs.Limits.{list_limit};
-ghost use Rattle.watch_rules.specs.Told.{Call, told_answer, told_handed};
+ghost use Rattle.watch_rules.specs.Told.{Call, told_answer, told_handed, accepted as taken};
 ghost use Rattle.watch_rules.specs.Rules.{unless_faulty_from, unless_faulty};
 ghost use Rattle.watch_rules.specs.Rows.{row, levels_of, relisted};
 ghost use Rattle.watch_rules.specs.Record.{record_of, rows, track_of, called};
@@ -14,34 +14,51 @@ ghost use Rattle.watch_record.specs.Code.{back};
 
 use readings_rules::CHANNEL_HIGHEST;
 use refusal::{Handed, Refusal};
-use watch_record::{Sound, depth_in_range, empty, fresh};
+use watch_record::{Sound, depth_in_range, empty, fresh, well_formed};
 use watch_rules::{Answer, LIST_LIMIT, Track, Watch};
 
-// Start: that channel alone, without levels, at this depth.
-pub fn start(mut w: Watch, serving: u16, depth: usize) -> Handed<Watch, Answer>
+// Start: that channel alone, without levels, at this depth. The watch is not written over, which would take the stack of one watch more.
+pub fn start(w: Watch, serving: u16, depth: usize) -> Handed<Watch, Answer>
     ensures { told_handed result ≡ called w (Call.start serving depth) }
 {
-    let answer = started(&mut w, serving, depth);
-    Handed { state: w, answer }
+    match startable(&w, serving, depth) {
+        Ok(()) => Handed {
+            state: alone(serving, depth),
+            answer: Ok(Answer::Accepted),
+        },
+        Err(why) => Handed {
+            state: w,
+            answer: Err(why),
+        },
+    }
 }
 
-fn started(w: &mut Watch, serving: u16, depth: usize) -> Result<Answer, Refusal>
-    ensures { back w.new (told_answer result) ≡ called w.old (Call.start serving depth) }
+// The tests of a start. No `Sound` is made, as a reference that is kept would have the watch copied.
+fn startable(w: &Watch, serving: u16, depth: usize) -> Result<(), Refusal>
+    ensures accepted { OnOk result (called w.now (Call.start serving depth) ≡ back (record_of depth (row serving [] ∷ [])) (gives taken)) }
+    ensures refused { IfErr result (λ why. called w.now (Call.start serving depth) ≡ back w.now (refused_for why)) }
 {
-    Sound::of(w)?;
+    if !well_formed(w) {
+        return Err(Refusal::RecordNotWellFormed);
+    }
     if !depth_in_range(depth) {
         return Err(Refusal::ParameterOutOfRange);
     }
     if serving > CHANNEL_HIGHEST {
         return Err(Refusal::ChannelOutOfRange);
     }
-    *w = Watch {
-        watched: 1,
-        depth,
-        ..fresh()
-    };
+    Ok(())
+}
+
+// A watch of a serving channel alone, without levels.
+fn alone(serving: u16, depth: usize) -> Watch
+    ensures { result ≡ record_of depth (row serving [] ∷ []) }
+{
+    let mut w = fresh();
     w.tracks[0] = empty(serving);
-    Ok(Answer::Accepted)
+    w.watched = 1;
+    w.depth = depth;
+    w
 }
 
 // The fault of the first faulty place of a list that is not too long: range, serving channel, repeat of an earlier place.

@@ -3,6 +3,7 @@
 #![tactic(auto)]
 
 ghost use Rattle.std.specs.Prelude.{◌≡◌, ◌==◌, cond, [], position, take, length, MatchResult, true, false};
+ghost use Rattle.refusal.specs.Told.{told_as, provided, gives};
 ghost use Rattle.watch_rules.specs.Lists.{distinct};
 ghost use Rattle.watch_rules.specs.Limits.{depth_in_range, room};
 ghost use Rattle.watch_rules.specs.Told.{told_answer, told_handed};
@@ -134,7 +135,8 @@ pub struct Sound<'a> {
 impl<'a> Sound<'a> {
     // The watch where it is well formed, or refusal 9.
     pub fn of(watch: &'a Watch) -> Result<Sound<'a>, Refusal>
-        ensures { MatchResult result (λ s. (s.watch.now ≡ watch.now) × (well_formed watch.now ≡ true)) (λ why. (why ≡ Refusal.RecordNotWellFormed) × (well_formed watch.now ≡ false)) }
+        ensures cases { MatchResult result (λ s. (s.watch.now ≡ watch.now) × (well_formed watch.now ≡ true)) (λ why. (why ≡ Refusal.RecordNotWellFormed) × (well_formed watch.now ≡ false)) }
+        ensures told { told_as (λ s. s.watch.now) result ≡ provided (well_formed watch.now) Refusal.RecordNotWellFormed (gives watch.now) }
     {
         if well_formed(watch) {
             Ok(Sound { watch })
@@ -162,15 +164,17 @@ impl<'a> Sound<'a> {
 pub fn check(w: Watch) -> Handed<Watch, Answer>
     ensures { told_handed result ≡ tested w }
 {
-    Handed {
-        state: w,
-        answer: checked(&w),
-    }
+    let answer = checked(&w);
+    Handed { state: w, answer }
 }
 
 fn checked(w: &Watch) -> Result<Answer, Refusal>
     ensures { back w.now (told_answer result) ≡ tested w.now }
 {
-    Sound::of(w)?;
-    Ok(Answer::Accepted)
+    // No `Sound` is made, as a reference that is kept would have the record copied.
+    if well_formed(w) {
+        Ok(Answer::Accepted)
+    } else {
+        Err(Refusal::RecordNotWellFormed)
+    }
 }

@@ -1,20 +1,20 @@
--- What passed is what was given, so the codes and the record are the definition's.
-use Rattle.std.proofs.Common.{◌≡◌, ap, w32, pos}
+-- What passed is what was given, so the codes and the record are those of the law `accept`; what was refused is told by `new`.
+use Rattle.std.proofs.Common.{◌≡◌, true, ap, refl, w32, Ok}
 use Rattle.std.proofs.lemmas.Int.{to_z-of_z}
-use Rattle.refusal.specs.Told.{gives}
-use Rattle.power_rules.specs.PowerSteps.{record_after, par_to_send, pan_to_send}
-use Rattle.power_rules.specs.Calls.{stepped, sending}
+use Rattle.readings_rules.specs.Ranges.{quality_in_range}
+use Rattle.power_rules.specs.PowerSteps.{pan_use, record_after}
+use Rattle.power_rules.specs.Code.{above_lowest, par_at, pan_at}
+use Rattle.power.proofs.Ends.{accept}
 use Rattle.power.proofs.step.Goals as goal
 
 pub returns-in-Ok : goal.returns-in-Ok
-unfolding sending
 returns-in-Ok c =
     let a = c.args in
     let q = to_z-of_z w32 a.sqi c.ranges.sqi in
-    let e : stepped a.p a.r a.d a.sqi ≡ record { power = record_after a.p a.r a.d; answer = gives (sending a.p a.r a.d a.sqi) } =
-    rw q at c.in-Ok.ensures.accepted in
     let s = c.in-Ok.ensures.passed in
+    let t = c.in-Ok.ensures.tests in
+    let inside : quality_in_range a.sqi ≡ true = rw q at t.2 in
     let after : c.record_after-state.result ≡ record_after a.p a.r a.d = cc (s.0, s.1, s.2, c.record_after-state.ensures.after) in
-    let par : pos c.par-par.result ≡ par_to_send a.p (record_after a.p a.r a.d).panlast a.sqi = cc (s.0, s.3, q, ap (λ r. r.panlast) after, c.par-par.ensures) in
-    let pan : pos c.pan-pan.result ≡ pan_to_send a.p (record_after a.p a.r a.d) = cc (s.0, after, c.pan-pan.ensures) in
-    rw e (after, λ i. gives (record { par = par i; pan = pan i }))
+    let par : c.par-par.result ≡ par_at a.p (pan_use a.r a.d) (above_lowest a.sqi) = cc (s.0, s.3, q, ap (λ r. r.panlast) after, c.par-par.ensures.code) in
+    let pan : c.pan-pan.result ≡ pan_at a.p (record_after a.p a.r a.d) = cc (s.0, after, c.pan-pan.ensures.code) in
+    accept a.p a.r a.d a.sqi _ (above_lowest a.sqi) (after, λ i. Ok (record { par = par i; pan = pan i })) refl t.0 t.1 inside

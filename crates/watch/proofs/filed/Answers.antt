@@ -58,30 +58,30 @@ returns-in_err-sound c =
     let a = c.args in
     let p = err_from_is_err_and c.from_residual.result c.from_residual.ensures.1 in
     rw (p.1, p.2)
-    (ap (λ (r : Refusal). back a.w.now (refused_for r)) c.in_err-sound.ensures.0
-    ∙ sym (called_unformed a.w.now (file a.channel a.burst) c.in_err-sound.ensures.1))
+    (ap (λ (r : Refusal). back a.w.now (refused_for r)) c.in_err-sound.ensures.cases.0
+    ∙ sym (called_unformed a.w.now (file a.channel a.burst) c.in_err-sound.ensures.cases.1))
 
 pub returns-in_err-place : goal.returns-in_err-place
 returns-in_err-place c =
     let a = c.args in
     let w = a.w.now in
     let x = c.in_err-place.ensures in
-    let none : None ≡ position (has a.channel) (take w.watched w.tracks) = sought a.channel c.in_ok-sound.ensures.0 c.place.ensures x.ok_part in
+    let none : None ≡ position (has a.channel) (take w.watched w.tracks) = sought a.channel c.in_ok-sound.ensures.cases.0 c.place.ensures x.ok_part in
     let p = err_from_is_err_and c.from_residual-in_err-place.result c.from_residual-in_err-place.ensures.1 in
     let v : Err c.in_err-place.field-0.0 ≡ Err NotWatched = x.value ∙ ap (λ (o : Option ℕ). ok_or o NotWatched) x.ok_part in
     let why : c.in_err-place.field-0.0 ≡ NotWatched = cc in
     rw (p.1, p.2)
     (ap (λ (r : Refusal). back w (refused_for r)) why
-    ∙ sym (called_refused w (file a.channel a.burst) c.in_ok-sound.ensures.1
-    (refuse_now NotWatched _ (unfound w a.channel c.in_ok-sound.ensures.1 none))))
+    ∙ sym (called_refused w (file a.channel a.burst) c.in_ok-sound.ensures.cases.1
+    (refuse_now NotWatched _ (unfound w a.channel c.in_ok-sound.ensures.cases.1 none))))
 
 pub returns-in_err-reading : goal.returns-in_err-reading
 returns-in_err-reading c =
     let a = c.args in
     let w = a.w.now in
-    let formed = c.in_ok-sound.ensures.1 in
+    let formed = c.in_ok-sound.ensures.cases.1 in
     let e : Some c.in_ok-place.place ≡ position (has a.channel) (take w.watched w.tracks) =
-    sought a.channel c.in_ok-sound.ensures.0 c.place.ensures c.in_ok-place.ensures.ok_part in
+    sought a.channel c.in_ok-sound.ensures.cases.0 c.place.ensures c.in_ok-place.ensures.ok_part in
     let p = err_from_is_err_and c.from_residual-in_err-reading.result c.from_residual-in_err-reading.ensures.1 in
     rw (p.1, p.2)
     (sym (called_refused w (file a.channel a.burst) formed
@@ -91,9 +91,9 @@ pub returns-in_default : goal.returns-in_default
 returns-in_default c =
     let a = c.args in
     let w = a.w.now in
-    let formed = c.in_ok-sound.ensures.1 in
+    let formed = c.in_ok-sound.ensures.cases.1 in
     let e : Some c.in_ok-place.place ≡ position (has a.channel) (take w.watched w.tracks) =
-    sought a.channel c.in_ok-sound.ensures.0 c.place.ensures c.in_ok-place.ensures.ok_part in
+    sought a.channel c.in_ok-sound.ensures.cases.0 c.place.ensures c.in_ok-place.ensures.ok_part in
     let b : burst_of a.burst ≡ gives missed = sym c.in_ok-reading.ensures.value ∙ ap (λ (b : Burst ℤ). told_burst (Ok b)) c.in_default.is in
     ap (λ (v : Watch). back v (gives accepted)) (sym (read_record w formed).back) ∙ sym (granted w a.channel formed e a.burst missed b)
 
@@ -101,31 +101,31 @@ pub offset_bounds-w-place : goal.offset_bounds-w-place
 offset_bounds-w-place c =
     let a = c.args in
     let w = a.w.now in
-    let formed = c.in_ok-sound.ensures.1 in
+    let formed = c.in_ok-sound.ensures.cases.1 in
     let e : Some c.in_ok-place.place ≡ position (has a.channel) (take w.watched w.tracks) =
-    sought a.channel c.in_ok-sound.ensures.0 c.place.ensures c.in_ok-place.ensures.ok_part in
+    sought a.channel c.in_ok-sound.ensures.cases.0 c.place.ensures c.in_ok-place.ensures.ok_part in
     record { fits = omega (arith, found_below w a.channel formed e, formed_short w formed) }
 
 pub push-requires-clause-fine : goal.push-requires-clause-fine
 push-requires-clause-fine c =
     let a = c.args in
     let w = a.w.now in
-    found_fine w a.channel c.in_ok-sound.ensures.1 (sought a.channel c.in_ok-sound.ensures.0 c.place.ensures c.in_ok-place.ensures.ok_part)
+    found_fine w a.channel c.in_ok-sound.ensures.cases.1 (sought a.channel c.in_ok-sound.ensures.cases.0 c.place.ensures c.in_ok-place.ensures.ok_part)
 
 pub push-requires-clause-deep : goal.push-requires-clause-deep
 push-requires-clause-deep c =
     let a = c.args in
     let w = a.w.now in
-    deep w a.channel c.in_ok-sound.ensures.1 (sought a.channel c.in_ok-sound.ensures.0 c.place.ensures c.in_ok-place.ensures.ok_part)
+    deep w a.channel c.in_ok-sound.ensures.cases.1 (sought a.channel c.in_ok-sound.ensures.cases.0 c.place.ensures c.in_ok-place.ensures.ok_part)
 
 pub returns : goal.returns
 returns c =
     let a = c.args in
     let w = a.w.now in
-    let formed = c.in_ok-sound.ensures.1 in
+    let formed = c.in_ok-sound.ensures.cases.1 in
     let k = c.in_ok-place.place in
     let e : Some k ≡ position (has a.channel) (take w.watched w.tracks) =
-    sought a.channel c.in_ok-sound.ensures.0 c.place.ensures c.in_ok-place.ensures.ok_part in
+    sought a.channel c.in_ok-sound.ensures.cases.0 c.place.ensures c.in_ok-place.ensures.ok_part in
     let r = c.in-Heard.reading in
     let b : burst_of a.burst ≡ gives (heard r.level r.quality) = sym c.in_ok-reading.ensures.value ∙ ap (λ (b : Burst ℤ). told_burst (Ok b)) c.in-Heard.is in
     let wide : SFits w32 r.level = search rules in

@@ -102,25 +102,25 @@ returns-in_err-sound c =
     let a = c.args in
     let p = err_from_is_err_and c.from_residual.result c.from_residual.ensures.1 in
     rw (p.1, p.2)
-    (ap (λ (r : Refusal). back a.w.now (refused_for r)) c.in_err-sound.ensures.0
-    ∙ sym (called_unformed a.w.now (verdict a.hysteresis) c.in_err-sound.ensures.1))
+    (ap (λ (r : Refusal). back a.w.now (refused_for r)) c.in_err-sound.ensures.cases.0
+    ∙ sym (called_unformed a.w.now (verdict a.hysteresis) c.in_err-sound.ensures.cases.1))
 
 pub returns-then-not-contains : goal.returns-then-not-contains
 returns-then-not-contains c =
     let a = c.args in
     let test : c.contains.result ≡ hysteresis_in_range a.hysteresis = search rules in
-    sym (called_refused a.w.now (verdict a.hysteresis) c.in_ok-sound.ensures.1
+    sym (called_refused a.w.now (verdict a.hysteresis) c.in_ok-sound.ensures.cases.1
     (refuse_now ParameterOutOfRange _ (sym test ∙ c.if-not-contains.true)))
 
 pub returns-in_err-serving : goal.returns-in_err-serving
 returns-in_err-serving c =
     let a = c.args in
     let w = a.w.now in
-    let formed = c.in_ok-sound.ensures.1 in
+    let formed = c.in_ok-sound.ensures.cases.1 in
     let test : c.contains.result ≡ hysteresis_in_range a.hysteresis = search rules in
     let x = c.in_err-serving.ensures in
     let none : length c.tracks.result.now ≡ 0 = rw x.ok_part at c.split_first.ensures.cases in
-    let used = c.tracks.ensures ∙ ap (λ (v : Watch). take v.watched v.tracks) c.in_ok-sound.ensures.0 in
+    let used = c.tracks.ensures ∙ ap (λ (v : Watch). take v.watched v.tracks) c.in_ok-sound.ensures.cases.0 in
     let idle : w.watched ≡ 0 = sym (as_many_lem w formed) ∙ length-map (take w.watched w.tracks) row_of ∙ ap length (sym used) ∙ none in
     let v : Err c.in_err-serving.field-0.0 ≡ Err NotWatched = x.value ∙ ap (λ o. ok_or o NotWatched) x.ok_part in
     let why : c.in_err-serving.field-0.0 ≡ NotWatched = cc in
@@ -134,13 +134,13 @@ pub returns-then-levels-w : goal.returns-then-levels-w
 returns-then-levels-w c =
     let a = c.args in
     let w = a.w.now in
-    let formed = c.in_ok-sound.ensures.1 in
+    let formed = c.in_ok-sound.ensures.cases.1 in
     let test : c.contains.result ≡ hysteresis_in_range a.hysteresis = search rules in
     let f = rw c.in_ok-serving.ensures.ok_part at c.split_first.ensures.cases in
     let s = c.in_ok-serving.serving.now in
     let l = c.in_ok-serving.list.now in
     let both : take w.watched w.tracks ≡ s ∷ l =
-    sym (c.tracks.ensures ∙ ap (λ (v : Watch). take v.watched v.tracks) c.in_ok-sound.ensures.0) ∙ f.0 in
+    sym (c.tracks.ensures ∙ ap (λ (v : Watch). take v.watched v.tracks) c.in_ok-sound.ensures.cases.0) ∙ f.0 in
     let few : length (row_of s).levels < w.depth = subst (λ (m : List ℤ). length m < w.depth) c.levels_of-levels.ensures.kept c.if-levels-w.true in
     waits w formed a.hysteresis (sym test ∙ c.if-not-contains.false) s l both few
 
@@ -149,7 +149,7 @@ overflow_add-bar c =
     let a = c.args in
     let w = a.w.now in
     let test : c.contains.result ≡ hysteresis_in_range a.hysteresis = search rules in
-    let deep = depth_within w.watched w.depth (formed_depth w c.in_ok-sound.ensures.1) in
+    let deep = depth_within w.watched w.depth (formed_depth w c.in_ok-sound.ensures.cases.1) in
     let whole : SFits w32 c.total.result = search rules in
     bar_fits w.depth a.hysteresis deep (sym test ∙ c.if-not-contains.false) c.ranges.hysteresis c.total.result whole c.total.ensures.low c.total.ensures.high
 
@@ -157,14 +157,14 @@ pub returns : goal.returns
 returns c =
     let w = c.args.w.now in
     let h = c.args.hysteresis in
-    let formed = c.in_ok-sound.ensures.1 in
+    let formed = c.in_ok-sound.ensures.cases.1 in
     let test : c.contains.result ≡ hysteresis_in_range h = search rules in
     let ranged = sym test ∙ c.if-not-contains.false in
     let f = rw c.in_ok-serving.ensures.ok_part at c.split_first.ensures.cases in
     let s = c.in_ok-serving.serving.now in
     let l = c.in_ok-serving.list.now in
     let both : take w.watched w.tracks ≡ s ∷ l =
-    sym (c.tracks.ensures ∙ ap (λ (v : Watch). take v.watched v.tracks) c.in_ok-sound.ensures.0) ∙ f.0 in
+    sym (c.tracks.ensures ∙ ap (λ (v : Watch). take v.watched v.tracks) c.in_ok-sound.ensures.cases.0) ∙ f.0 in
     let kept = c.levels_of-levels.ensures.kept in
     let enough : w.depth ≤ length (row_of s).levels = subst (λ (m : List ℤ). w.depth ≤ length m) kept c.if-levels-w.false in
     let deep = depth_within w.watched w.depth (formed_depth w formed) in

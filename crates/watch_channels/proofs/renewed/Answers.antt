@@ -29,13 +29,13 @@ returns-in_err-sound c =
     let a = c.args in
     let p = err_from_is_err_and c.from_residual.result c.from_residual.ensures.1 in
     rw (p.1, p.2)
-    (ap (λ (r : Refusal). back a.w.now (refused_for r)) c.in_err-sound.ensures.0
-    ∙ sym (called_unformed a.w.now (new_beam a.serving a.list.now) c.in_err-sound.ensures.1))
+    (ap (λ (r : Refusal). back a.w.now (refused_for r)) c.in_err-sound.ensures.cases.0
+    ∙ sym (called_unformed a.w.now (new_beam a.serving a.list.now) c.in_err-sound.ensures.cases.1))
 
 pub returns-then-serving-gt-CHANNEL_HIGHEST : goal.returns-then-serving-gt-CHANNEL_HIGHEST
 returns-then-serving-gt-CHANNEL_HIGHEST c =
     let a = c.args in
-    sym (called_refused a.w.now (new_beam a.serving a.list.now) c.in_ok-sound.ensures.1
+    sym (called_refused a.w.now (new_beam a.serving a.list.now) c.in_ok-sound.ensures.cases.1
     (refuse_now ChannelOutOfRange _ (lt-leb a.serving channel_highest c.if-serving-gt-CHANNEL_HIGHEST.true)))
 
 pub returns-in_err-list_fault : goal.returns-in_err-list_fault
@@ -44,16 +44,16 @@ returns-in_err-list_fault c =
     let ranged : channel_in_range a.serving ≡ true = le-leb a.serving channel_highest c.if-serving-gt-CHANNEL_HIGHEST.false in
     let p = err_from_is_err_and c.from_residual-in_err-list_fault.result c.from_residual-in_err-list_fault.ensures.1 in
     rw (p.1, p.2)
-    (sym (called_refused a.w.now (new_beam a.serving a.list.now) c.in_ok-sound.ensures.1
+    (sym (called_refused a.w.now (new_beam a.serving a.list.now) c.in_ok-sound.ensures.cases.1
     (refuse_later ChannelOutOfRange ranged (fault_first a.serving a.list.now (sym c.in_err-list_fault.ensures) _))))
 
 pub returns-then-sound-eq0 : goal.returns-then-sound-eq0
 returns-then-sound-eq0 c =
     let a = c.args in
-    let formed = c.in_ok-sound.ensures.1 in
+    let formed = c.in_ok-sound.ensures.cases.1 in
     let ranged : channel_in_range a.serving ≡ true = le-leb a.serving channel_highest c.if-serving-gt-CHANNEL_HIGHEST.false in
     let sound : list_sound a.serving a.list.now ≡ true = (passes_sound a.serving a.list.now refusal.accepted (sym c.in_ok-list_fault.ensures)).0 in
-    let idle : a.w.now.watched ≡ 0 = sym (ap (λ (w : Watch). w.watched) c.in_ok-sound.ensures.0) ∙ c.if-sound-eq0.true in
+    let idle : a.w.now.watched ≡ 0 = sym (ap (λ (w : Watch). w.watched) c.in_ok-sound.ensures.cases.0) ∙ c.if-sound-eq0.true in
     sym (called_refused a.w.now (new_beam a.serving a.list.now) formed
     (passes a.w.now a.serving a.list.now ranged sound (refuse_now NotWatched _ (serving_none a.w.now formed idle))))
 
@@ -65,8 +65,8 @@ relist-requires c =
 pub returns : goal.returns
 returns c =
     let a = c.args in
-    let formed = c.in_ok-sound.ensures.1 in
-    let same = c.in_ok-sound.ensures.0 in
+    let formed = c.in_ok-sound.ensures.cases.1 in
+    let same = c.in_ok-sound.ensures.cases.0 in
     let ranged : channel_in_range a.serving ≡ true = le-leb a.serving channel_highest c.if-serving-gt-CHANNEL_HIGHEST.false in
     let sound : list_sound a.serving a.list.now ≡ true = (passes_sound a.serving a.list.now refusal.accepted (sym c.in_ok-list_fault.ensures)).0 in
     let active : a.w.now.watched ≡ 0 → ⊥ = λ e. c.if-sound-eq0.false (ap (λ (w : Watch). w.watched) same ∙ e) in
