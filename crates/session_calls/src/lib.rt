@@ -7,7 +7,7 @@ ghost use Rattle.session_words.specs.Words.{words_of};
 ghost use Rattle.session_calls.specs.Grammar.{most_channels, channels_up_to, fits_word, fits, rows_of, first_fit};
 ghost use Rattle.session_calls.specs.Code.{WordsOf};
 
-use session_numbers::{num, whole_number};
+use session_numbers::{BYTE_HIGHEST, CH_HIGHEST, int, natural, num};
 use session_values::LISTED;
 use session_words::{NEWLINE, SPACE, same};
 
@@ -19,9 +19,9 @@ fn fits_word(asked: &[u8], word: &[u8]) -> bool
     ensures { result ≡ fits_word asked.now word.now }
 {
     match asked {
-        b"CH" => whole_number::<u16>(word).is_some(),
-        b"INT" => whole_number::<i32>(word).is_some(),
-        b"BYTE" => whole_number::<u8>(word).is_some(),
+        b"CH" => natural(word, CH_HIGHEST).is_some(),
+        b"INT" => int(word).is_some(),
+        b"BYTE" => natural(word, BYTE_HIGHEST).is_some(),
         b"NUM" => num(word).is_some(),
         _ => same(asked, word),
     }
@@ -37,7 +37,7 @@ fn are_channels<'a, W: Iterator<Item = &'a [u8]> + Drop>(mut words: W) -> bool
         let Some(word) = words.next() else {
             return true;
         };
-        if whole_number::<u16>(word).is_none() {
+        if natural(word, CH_HIGHEST).is_none() {
             return false;
         }
     }

@@ -70,7 +70,7 @@ fn whole(word: &[u8]) -> Option<i64>
 }
 
 // A whole number, where the type holds it.
-pub fn whole_number<T: TryFrom<i64>>(word: &[u8]) -> Option<T>
+fn whole_number<T: TryFrom<i64>>(word: &[u8]) -> Option<T>
 where
     T::Error: Drop,
     ensures { Told T.try_from_gives (whole_of word.now) result }

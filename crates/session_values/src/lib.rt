@@ -7,7 +7,7 @@ ghost use Rattle.session_values.specs.Values.{CH, BYTE, INT, NUM, heard, listed,
 
 use arrayvec::ArrayVec;
 use readings_rules::{Burst, Reading};
-use session_numbers::{num, whole_number};
+use session_numbers::{BYTE_HIGHEST, CH_HIGHEST, int, natural, num};
 use session_words::{SPACE, word};
 use std::array;
 
@@ -19,19 +19,19 @@ pub const LISTED: usize = 8;
 pub fn channel_at(line: &[u8], k: usize) -> u16
     ensures { result ≡ CH (words_of line.now) k }
 {
-    whole_number::<u16>(word(line, k)).unwrap_or(0)
+    natural(word(line, k), CH_HIGHEST).unwrap_or(0) as u16
 }
 
 pub fn byte_at(line: &[u8], k: usize) -> u8
     ensures { result ≡ BYTE (words_of line.now) k }
 {
-    whole_number::<u8>(word(line, k)).unwrap_or(0)
+    natural(word(line, k), BYTE_HIGHEST).unwrap_or(0) as u8
 }
 
 pub fn int_at(line: &[u8], k: usize) -> i32
     ensures { result ≡ INT (words_of line.now) k }
 {
-    whole_number::<i32>(word(line, k)).unwrap_or(0)
+    int(word(line, k)).unwrap_or(0)
 }
 
 pub fn num_at(line: &[u8], k: usize) -> f32
@@ -66,7 +66,7 @@ pub fn list_at(line: &[u8], place: usize) -> ArrayVec<u16, LISTED>
 {
     let mut channels = ArrayVec::new();
     for word in line.split(|b| *b == SPACE).skip(place).take(LISTED) {
-        channels.push(whole_number(word).unwrap_or(0));
+        channels.push(natural(word, CH_HIGHEST).unwrap_or(0) as u16);
     }
     channels
 }

@@ -1,7 +1,6 @@
 -- Word by word, by the laws of `Channels`.
-use Rattle.std.proofs.Common.{◌-◌, sym, ap, refl, ◌∙◌}
+use Rattle.std.proofs.Common.{◌-◌, sym, ap, ◌∙◌}
 use Rattle.std.specs.Prelude.{is_some}
-use Rattle.session_numbers.proofs.Ranges.{natural_told}
 use Rattle.session_calls.specs.Grammar.{channels_up_to}
 use Rattle.session_calls.proofs.Going.{ended, took}
 use Rattle.session_calls.proofs.Channels.{none_left, no_channel, channel_on, at_end}
@@ -20,22 +19,20 @@ returns-then-is_none g c = λ ws h.
     let l = c.loop in
     let i = l.invariant ws h in
     let n = took g.W.Iterator.next_gives l.words c.next.new.self i.0 c.in-Some.word i.1 c.in-Some.ensures.steps in
-    let told = natural_told 16 65535 _ c.in-Some.word.now c.whole_number.result refl c.whole_number.ensures in
     sym (i.2
     ∙ ap (channels_up_to (8 - l.counter)) n.is
-    ∙ no_channel l.counter c.in-Some.word.now n.rest c.loop-test.true (ap is_some (sym told) ∙ c.if-is_none.ensures))
+    ∙ no_channel l.counter c.in-Some.word.now n.rest c.loop-test.true (ap is_some (sym c.natural.ensures.value) ∙ c.if-is_none.ensures))
 
 pub loop-preserved : goal.loop-preserved
 loop-preserved g c = λ ws h.
     let l = c.loop in
     let i = l.invariant ws h in
-    let n = took g.W.Iterator.next_gives l.words c.next.new.self i.0 c.in-Some.word i.1 c.in-Some.ensures.steps in
-    let told = natural_told 16 65535 _ c.in-Some.word.now c.whole_number.result refl c.whole_number.ensures in (
+    let n = took g.W.Iterator.next_gives l.words c.next.new.self i.0 c.in-Some.word i.1 c.in-Some.ensures.steps in (
       n.rest,
       n.left,
       i.2
           ∙ ap (channels_up_to (8 - l.counter)) n.is
-          ∙ channel_on l.counter c.in-Some.word.now n.rest c.loop-test.true (ap is_some (sym told) ∙ c.if-is_none.ensures),
+          ∙ channel_on l.counter c.in-Some.word.now n.rest c.loop-test.true (ap is_some (sym c.natural.ensures.value) ∙ c.if-is_none.ensures),
     )
 
 pub returns : goal.returns

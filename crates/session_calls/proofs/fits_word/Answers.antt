@@ -1,9 +1,8 @@
 -- Kind by kind: the word of the row by its bytes; in the last arm it is none of the four, whichever test it fails.
-use Rattle.std.proofs.Common.{◌≡◌, length, get_or, ap, refl, ◌∙◌, arith}
+use Rattle.std.proofs.Common.{◌≡◌, length, get_or, ap, ◌∙◌, arith}
 use Rattle.std.specs.Prelude.{is_some}
 use Rattle.std.proofs.lemmas.Slice.Eq.{text_from_reads}
 use Rattle.session_words.specs.Bytes.{bytes_of, alike}
-use Rattle.session_numbers.proofs.Ranges.{natural_told, int_told}
 use Rattle.session_calls.specs.Grammar.{fits_word}
 use Rattle.session_calls.proofs.Apart.{other_word}
 use Rattle.session_calls.proofs.fits_word.Goals as goal
@@ -12,13 +11,13 @@ pub returns-in-CH : goal.returns-in-CH
 unfolding fits_word alike
 returns-in-CH c =
     let e : c.args.asked.now ≡ bytes_of "CH" = text_from_reads _ _ (omega arith) (omega arith, (omega arith, tt)) in
-    rw e (c.is_some.ensures ∙ ap is_some (natural_told 16 65535 _ c.args.word.now c.whole_number.result refl c.whole_number.ensures))
+    rw e (c.is_some.ensures ∙ ap is_some c.natural.ensures.value)
 
 pub returns-in-INT : goal.returns-in-INT
 unfolding fits_word alike
 returns-in-INT c =
     let e : c.args.asked.now ≡ bytes_of "INT" = text_from_reads _ _ (omega arith) (omega arith, (omega arith, (omega arith, tt))) in
-    rw e (c.is_some-in-INT.ensures ∙ ap is_some (int_told _ c.args.word.now c.whole_number-in-INT.result c.whole_number-in-INT.ensures))
+    rw e (c.is_some-in-INT.ensures ∙ ap is_some c.int.ensures)
 
 pub returns-in-NUM : goal.returns-in-NUM
 unfolding fits_word alike
@@ -30,8 +29,7 @@ pub returns-in-BYTE : goal.returns-in-BYTE
 unfolding fits_word alike
 returns-in-BYTE c =
     let e : c.args.asked.now ≡ bytes_of "BYTE" = text_from_reads _ _ (omega arith) (omega arith, (omega arith, (omega arith, (omega arith, tt)))) in
-    rw e (c.is_some-in-BYTE.ensures
-    ∙ ap is_some (natural_told 8 255 _ c.args.word.now c.whole_number-in-BYTE.result refl c.whole_number-in-BYTE.ensures))
+    rw e (c.is_some-in-BYTE.ensures ∙ ap is_some c.natural-in-BYTE.ensures.value)
 
 pub returns-in_default : goal.returns-in_default
 returns-in_default c =

@@ -12,7 +12,6 @@ use Rattle.std.specs.Borrow.{Bor}
 use Rattle.std.specs.List.{slice_split}
 use Rattle.session_words.specs.Words.{space, words_of}
 use Rattle.session_words.proofs.Cuts.{words_are}
-use Rattle.session_numbers.proofs.Ranges.{natural_told}
 use Rattle.session_values.specs.Values.{channel}
 use Rattle.session_values.proofs.Lists.{channels_are}
 use Rattle.session_values.proofs.list_at.Given as given
@@ -40,11 +39,9 @@ push-requires c =
 
 pub loop-word-preserved : goal.loop-word-preserved
 loop-word-preserved c =
-    let w = c.in-Some.word.now in
-    let told = natural_told 16 65535 _ w c.whole_number.result refl c.whole_number.ensures in
     rw (map_push, map_push)
     (c.push.ensures.items ∙ ap (λ r. r ++ c.unwrap_or.result ∷ []) c.loop-word.invariant
-    ∙ ap (λ n. map channel (map (λ w. w.now) c.loop-word.yielded) ++ n ∷ []) (c.unwrap_or.ensures ∙ ap (λ o. unwrap_or o 0) told))
+    ∙ ap (λ n. map channel (map (λ w. w.now) c.loop-word.yielded) ++ n ∷ []) (c.unwrap_or.ensures ∙ ap (λ o. unwrap_or o 0) c.natural.ensures.value))
 
 pub returns : goal.returns
 returns c =
