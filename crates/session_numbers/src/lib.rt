@@ -1,4 +1,4 @@
-// The numbers of a session file: whole numbers in a range or as far as a type holds them, and single floats.
+// The numbers of a session file: whole numbers in a range, and single floats.
 #![tactic(auto)]
 
 ghost use Rattle.std.specs.Prelude.{◌≡◌, ◌^◌, ◌<◌, ◌≤◌, length, IfSome, OnSome};

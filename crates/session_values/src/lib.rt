@@ -14,8 +14,7 @@ use std::array;
 // The most channels of a list: CH.. stands for so many at most.
 pub const LISTED: usize = 8;
 
-// The word at a place as a CH, a BYTE, an INT or a NUM; where it is none, 0. Each kind has the name that the format gives it: a call of one
-// generic function would name a type in its place, and say less.
+// The word at a place as a CH, a BYTE, an INT or a NUM; where it is none, 0.
 pub fn channel_at(line: &[u8], k: usize) -> u16
     ensures { result ≡ CH (words_of line.now) k }
 {
