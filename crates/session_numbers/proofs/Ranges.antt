@@ -1,36 +1,55 @@
--- A whole number as a type tells it: at an unsigned type, one from 0 to its highest, or to a lower one; at a signed one, one within its range.
-use Rattle.std.proofs.Common.{◌≡◌, ℕ, suc, ◌^◌, ◌<◌, ◌≤◌, Bool, true, false, cond, leb, List, Option, None, Some, Result, Ok, Err, ℤ, pos, negsuc, refl, ap, ◌∙◌, arith, le-leb}
+-- A whole number as a type tells it whose own `try_from` leaves nothing free: at an unsigned type, one from 0 to its highest, or to a lower one; at a
+-- signed one, one within its range.
+use Rattle.std.proofs.Common.{◌≡◌, ℕ, suc, ◌^◌, ◌<◌, ◌≤◌, Bool, true, false, cond, leb, List, Option, None, Some, Result, Ok, Err, ℤ, pos, negsuc, refl, sym, ap, ◌∙◌, arith, le-leb}
 use Rattle.std.proofs.lemmas.Bool.{lt-leb}
 use mathlib.Core.Path.{subst}
 use native.Mathlib.Decide.{dec_le}
 use native.Mathlib.Nat.{lt_of_not-le}
 use lib.Dec.{leb-zero}
-use Rattle.std.specs.Prelude.{unsigned_abs, FitsSigned, nat_abs, option_map}
+use Rattle.std.specs.Prelude.{unsigned_abs, FitsSigned, nat_abs, option_map, option_and_then}
 use Rattle.std.specs.Int.{FitsUnsignedBits, w32}
 use Rattle.std.specs.Option.{MatchOption}
 use Rattle.std.specs.Bool.{then_some}
 use Rattle.std.specs.Result.{OkIff, result_ok}
 use Rattle.session_numbers.specs.Numbers.{whole_of, within, natural_of, int_of}
-use Rattle.session_numbers.specs.Code.{Told}
+use Rattle.session_numbers.specs.Code.{Told, Tells}
 
-pub natural_told : (k highest : ℕ) (E : Type 0) (s : List ℕ) (r : Option ℕ) → suc highest ≡ 2 ^ k
-    → Told (λ z (o : Result ℕ E). OkIff o (FitsUnsignedBits k z) (unsigned_abs z)) (whole_of s) r → r ≡ natural_of highest s
-unfolding natural_of
-natural_told k highest E s r top h = go (whole_of s) h
+-- what is told of a whole number, where the type's own `try_from` leaves nothing free
+pub told_by : {A E : Type 0} (gives : ℤ → Result A E → Type 0) (tell : ℤ → Option A) → Tells gives tell
+    → (z : Option ℤ) (r : Option A) → Told gives z r → r ≡ option_and_then tell z
+told_by gives tell h None r e = e
+told_by gives tell h (Some z) r t = t.2 ∙ h z t.0 t.1
+
+-- the same, for what is told of each number by a function that tells nothing of none
+told_whole : {A E : Type 0} (gives : ℤ → Result A E → Type 0) (tell : Option ℤ → Option A) → tell None ≡ None
+    → Tells gives (λ z. tell (Some z)) → (z : Option ℤ) (r : Option A) → Told gives z r → r ≡ tell z
+told_whole gives tell none h z r t = told_by gives (λ z. tell (Some z)) h z r t ∙ all z
+  where
+    all : (z : Option ℤ) → option_and_then (λ z. tell (Some z)) z ≡ tell z
+    all None = sym none
+    all (Some z) = refl
+
+-- what an unsigned type tells, by its highest number: one whose `try_from` leaves nothing free
+abbrev pub natural_within : ℕ → Option ℤ → Option ℕ
+natural_within highest z = option_map nat_abs (within (pos 0) (pos highest) z)
+
+pub natural_tells : (k highest : ℕ) (E : Type 0) → suc highest ≡ 2 ^ k
+    → Tells (λ z (o : Result ℕ E). OkIff o (FitsUnsignedBits k z) (unsigned_abs z)) (λ z. natural_within highest (Some z))
+natural_tells k highest E top = by
   where
     above : (n : ℕ) → (n < 2 ^ k → ⊥) → highest < n
     above n f = lt_of_not-le (λ (h : n ≤ highest). f (omega arith))
 
-    by : (z : ℤ) (o : Result ℕ E) → OkIff o (FitsUnsignedBits k z) (unsigned_abs z) → result_ok o ≡ option_map nat_abs (within (pos 0) (pos highest) (Some z))
+    by : (z : ℤ) (o : Result ℕ E) → OkIff o (FitsUnsignedBits k z) (unsigned_abs z) → result_ok o ≡ natural_within highest (Some z)
     by (pos n) (Ok x) f = rw (leb-zero n, le-leb n highest (omega arith)) (ap Some f.1)
     by (pos n) (Err e) f = rw (leb-zero n, lt-leb n highest (above n f)) refl
     by (negsuc n) (Ok x) f = absurd f.0
     by (negsuc n) (Err e) f = refl
 
-    go : (o : Option ℤ) → Told (λ z (o : Result ℕ E). OkIff o (FitsUnsignedBits k z) (unsigned_abs z)) o r
-        → r ≡ option_map nat_abs (within (pos 0) (pos highest) o)
-    go None e = e
-    go (Some z) t = t.2 ∙ by z t.0 t.1
+pub natural_told : (k highest : ℕ) (E : Type 0) (s : List ℕ) (r : Option ℕ) → suc highest ≡ 2 ^ k
+    → Told (λ z (o : Result ℕ E). OkIff o (FitsUnsignedBits k z) (unsigned_abs z)) (whole_of s) r → r ≡ natural_of highest s
+unfolding natural_of
+natural_told k highest E s r top h = told_whole _ (natural_within highest) refl (natural_tells k highest E top) (whole_of s) r h
 
 -- what is left of a number where those above a highest are left out
 abbrev Left : ℕ → Option ℕ → Option ℕ → Type 0
@@ -59,16 +78,16 @@ natural_up_to k top highest E s r q e h t f = go (whole_of s) (subst (Left highe
     go (Some (pos n)) f = rw (leb-zero n) (by n (dec_le n top) (rw (leb-zero n) at f))
     go (Some (negsuc n)) f = f
 
+-- what 32 bits with a sign tell, which leave nothing free either
+abbrev pub int_within : Option ℤ → Option ℤ
+int_within = within (negsuc 2147483647) (pos 2147483647)
+
+pub int_tells : (E : Type 0) → Tells (λ z (o : Result ℤ E). OkIff o (FitsSigned w32 z) z) (λ z. int_within (Some z))
+int_tells E (pos n) (Ok x) f = rw (le-leb n 2147483647 (omega (arith, f.0.sfits))) (ap Some f.1)
+int_tells E (pos n) (Err e) f = rw (lt-leb n 2147483647 (lt_of_not-le (λ (h : n ≤ 2147483647). f (record { sfits = omega arith })))) refl
+int_tells E (negsuc n) (Ok x) f = rw (le-leb n 2147483647 (omega (arith, f.0.sfits))) (ap Some f.1)
+int_tells E (negsuc n) (Err e) f = rw (lt-leb n 2147483647 (lt_of_not-le (λ (h : n ≤ 2147483647). f (record { sfits = omega arith })))) refl
+
 pub int_told : (E : Type 0) (s : List ℕ) (r : Option ℤ) → Told (λ z (o : Result ℤ E). OkIff o (FitsSigned w32 z) z) (whole_of s) r → r ≡ int_of s
 unfolding int_of
-int_told E s r h = go (whole_of s) h
-  where
-    by : (z : ℤ) (o : Result ℤ E) → OkIff o (FitsSigned w32 z) z → result_ok o ≡ within (negsuc 2147483647) (pos 2147483647) (Some z)
-    by (pos n) (Ok x) f = rw (le-leb n 2147483647 (omega (arith, f.0.sfits))) (ap Some f.1)
-    by (pos n) (Err e) f = rw (lt-leb n 2147483647 (lt_of_not-le (λ (h : n ≤ 2147483647). f (record { sfits = omega arith })))) refl
-    by (negsuc n) (Ok x) f = rw (le-leb n 2147483647 (omega (arith, f.0.sfits))) (ap Some f.1)
-    by (negsuc n) (Err e) f = rw (lt-leb n 2147483647 (lt_of_not-le (λ (h : n ≤ 2147483647). f (record { sfits = omega arith })))) refl
-
-    go : (o : Option ℤ) → Told (λ z (o : Result ℤ E). OkIff o (FitsSigned w32 z) z) o r → r ≡ within (negsuc 2147483647) (pos 2147483647) o
-    go None e = e
-    go (Some z) t = t.2 ∙ by z t.0 t.1
+int_told E s r h = told_whole _ int_within refl (int_tells E) (whole_of s) r h

@@ -19,3 +19,7 @@ run_in radix s = run_after radix 0 s
 abbrev pub Told : {A E : Type 0} → (ℤ → Result A E → Type 0) → Option ℤ → Option A → Type 0
 Told gives None r = r ≡ None
 Told {A} {E} gives (Some z) r = (o : Result A E) × gives z o × (r ≡ result_ok o)
+
+-- such a `try_from` makes of each number what this function tells of it, and leaves nothing free
+abbrev pub Tells : {A E : Type 0} → (ℤ → Result A E → Type 0) → (ℤ → Option A) → Type 0
+Tells {A} {E} gives tell = (z : ℤ) (o : Result A E) → gives z o → result_ok o ≡ tell z

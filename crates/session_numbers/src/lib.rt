@@ -1,11 +1,14 @@
-// The numbers of a session file: whole numbers in a range, and single floats.
+// The numbers of a session file: whole numbers in a range, or as far as a type holds them, and single floats.
 #![tactic(auto)]
 
-ghost use Rattle.std.specs.Prelude.{◌≡◌, ◌^◌, ◌<◌, ◌≤◌, length, IfSome, OnSome};
+ghost use Rattle.std.specs.Prelude.{◌≡◌, ◌^◌, ◌<◌, ◌≤◌, length, Option, IfSome, OnSome, ℤ, option_and_then};
 ghost use Rattle.session_numbers.specs.Numbers.{digits_of, whole_of, natural_of, int_of, quotient, fraction_of, unsigned_of, decimal_of, bits_of, num_of};
-ghost use Rattle.session_numbers.specs.Code.{digit_in, run_in, Told};
+ghost use Rattle.session_numbers.specs.Code.{digit_in, run_in, Told, Tells};
 
 use std::num::f32_from_bits_with_nan;
+
+#[cfg(test)]
+mod tests;
 
 // The most digits of a whole number and of a decimal.
 const WHOLE_DIGITS: usize = 10;
@@ -70,10 +73,11 @@ fn whole(word: &[u8]) -> Option<i64>
 }
 
 // A whole number, where the type holds it.
-fn whole_number<T: TryFrom<i64>>(word: &[u8]) -> Option<T>
+pub fn whole_number<T: TryFrom<i64>>(word: &[u8]) -> Option<T>
 where
     T::Error: Drop,
-    ensures { Told T.try_from_gives (whole_of word.now) result }
+    ensures told { Told T.try_from_gives (whole_of word.now) result }
+    ensures value { (tell : ℤ → Option T) → Tells T.try_from_gives tell → result ≡ option_and_then tell (whole_of word.now) }
 {
     T::try_from(whole(word)?).ok()
 }

@@ -13,5 +13,5 @@ kept highest (Some n) q P by f = f.2 ∙ ap (λ b. then_some b n) (by n f.0 f.1)
 
 pub returns-clause-value : goal.returns-clause-value
 returns-clause-value c =
-    natural_up_to 64 18446744073709551615 c.args.highest _ c.args.word.now c.whole_number.result c.filter.result refl (omega arith) c.whole_number.ensures
+    natural_up_to 64 18446744073709551615 c.args.highest _ c.args.word.now c.whole_number.result c.filter.result refl (omega arith) c.whole_number.ensures.told
     (kept c.args.highest c.whole_number.result c.filter.result _ (λ n b q. search (rules, tests)) c.filter.ensures)
