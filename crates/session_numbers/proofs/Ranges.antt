@@ -14,6 +14,11 @@ use Rattle.std.specs.Result.{OkIff, result_ok}
 use Rattle.session_numbers.specs.Numbers.{whole_of, within, natural_of, int_of}
 use Rattle.session_numbers.specs.Code.{Told, Tells}
 
+-- what is told where the type's own `try_from` gave x of the number
+pub told_some : {A E : Type 0} (gives : ℤ → Result A E → Type 0) (o : Option ℤ) (z : ℤ) (x : Result A E) (r : Option A)
+    → o ≡ Some z → gives z x → r ≡ result_ok x → Told gives o r
+told_some gives o z x r e h q = subst (λ y. Told gives y r) (sym e) (x, h, q)
+
 -- what is told of a whole number, where the type's own `try_from` leaves nothing free
 pub told_by : {A E : Type 0} (gives : ℤ → Result A E → Type 0) (tell : ℤ → Option A) → Tells gives tell
     → (z : Option ℤ) (r : Option A) → Told gives z r → r ≡ option_and_then tell z

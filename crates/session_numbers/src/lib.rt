@@ -73,6 +73,7 @@ fn whole(word: &[u8]) -> Option<i64>
 }
 
 // A whole number, where the type holds it.
+#[tactic(auto, using(crate::proofs::Ranges::told_some, crate::proofs::Ranges::told_by))]
 pub fn whole_number<T: TryFrom<i64>>(word: &[u8]) -> Option<T>
 where
     T::Error: Drop,
