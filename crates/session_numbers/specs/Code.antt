@@ -20,6 +20,6 @@ abbrev pub Told : {A E : Type 0} → (ℤ → Result A E → Type 0) → Option 
 Told gives None r = r ≡ None
 Told {A} {E} gives (Some z) r = (o : Result A E) × gives z o × (r ≡ result_ok o)
 
--- such a `try_from` makes of each number what this function tells of it, and leaves nothing free
-abbrev pub Tells : {A E : Type 0} → (ℤ → Result A E → Type 0) → (ℤ → Option A) → Type 0
-Tells {A} {E} gives tell = (z : ℤ) (o : Result A E) → gives z o → result_ok o ≡ tell z
+-- of each number a type's own `try_from` makes this value alone; which error it gives where it makes none is left free
+abbrev pub OnlyValue : {A E : Type 0} → (ℤ → Result A E → Type 0) → (ℤ → Option A) → Type 0
+OnlyValue {A} {E} gives value = (z : ℤ) (o : Result A E) → gives z o → result_ok o ≡ value z

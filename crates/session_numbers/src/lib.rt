@@ -3,7 +3,7 @@
 
 ghost use Rattle.std.specs.Prelude.{◌≡◌, ◌^◌, ◌<◌, ◌≤◌, length, Option, IfSome, OnSome, ℤ, option_and_then};
 ghost use Rattle.session_numbers.specs.Numbers.{digits_of, whole_of, natural_of, int_of, quotient, fraction_of, unsigned_of, decimal_of, bits_of, num_of};
-ghost use Rattle.session_numbers.specs.Code.{digit_in, run_in, Told, Tells};
+ghost use Rattle.session_numbers.specs.Code.{digit_in, run_in, Told, OnlyValue};
 
 use std::num::f32_from_bits_with_nan;
 
@@ -73,12 +73,12 @@ fn whole(word: &[u8]) -> Option<i64>
 }
 
 // A whole number, where the type holds it.
-#[tactic(auto, using(crate::proofs::Ranges::told_some, crate::proofs::Ranges::told_by))]
+#[tactic(auto, using(crate::proofs::Ranges::told_some, crate::proofs::Ranges::told_only_value))]
 pub fn whole_number<T: TryFrom<i64>>(word: &[u8]) -> Option<T>
 where
     T::Error: Drop,
     ensures told { Told T.try_from_gives (whole_of word.now) result }
-    ensures value { (tell : ℤ → Option T) → Tells T.try_from_gives tell → result ≡ option_and_then tell (whole_of word.now) }
+    ensures value { (value : ℤ → Option T) → OnlyValue T.try_from_gives value → result ≡ option_and_then value (whole_of word.now) }
 {
     T::try_from(whole(word)?).ok()
 }
